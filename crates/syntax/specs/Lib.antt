@@ -1,0 +1,5 @@
+pub mod Codes
+pub mod Trees
+pub mod Answers
+pub mod Heads
+pub mod Parsing
