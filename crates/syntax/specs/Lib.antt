@@ -3,3 +3,5 @@ pub mod Trees
 pub mod Answers
 pub mod Heads
 pub mod Parsing
+pub mod Entries
+pub mod Reading

@@ -14,7 +14,12 @@ use crate::tree::Node;
 use std::alloc::Global;
 
 // The expression at a place, at most `depth` deep, and the place after it.
-pub(crate) fn read_expression(heap: Global, bytes: &[u8], at: usize, depth: u8) -> Result<(Expr, usize), Stop>
+pub(crate) fn read_expression(
+    heap: Global,
+    bytes: &[u8],
+    at: usize,
+    depth: u8,
+) -> Result<(Expr, usize), Stop>
     requires { ⌜ length (now bytes) ≤ 8192 ⌝ }
     ensures { λ r. ⌜ Gives exp r (parse depth (now (bytes .entry)) at) ⌝ }
 {
@@ -23,7 +28,14 @@ pub(crate) fn read_expression(heap: Global, bytes: &[u8], at: usize, depth: u8) 
     match node {
         Node::Constant(value) => Ok((Expr::Constant { place, value }, next)),
         Node::Channel(number) => Ok((Expr::Channel { place, number }, next)),
-        Node::Stream(number, drop) => Ok((Expr::Stream { place, number, drop }, next)),
+        Node::Stream(number, drop) => Ok((
+            Expr::Stream {
+                place,
+                number,
+                drop,
+            },
+            next,
+        )),
         Node::Unary(op) => {
             let (e, next) = read_expression(heap, bytes, next, depth - 1)?;
             let operand = Box::new(heap, e)?;
@@ -39,7 +51,15 @@ pub(crate) fn read_expression(heap: Global, bytes: &[u8], at: usize, depth: u8) 
             let (b, next) = read_expression(heap, bytes, next, depth - 1)?;
             let left = Box::new(heap, a)?;
             let right = Box::new(heap, b)?;
-            Ok((Expr::Binary { place, op, left, right }, next))
+            Ok((
+                Expr::Binary {
+                    place,
+                    op,
+                    left,
+                    right,
+                },
+                next,
+            ))
         }
         Node::Choose => {
             let (a, next) = read_expression(heap, bytes, next, depth - 1)?;
@@ -48,7 +68,15 @@ pub(crate) fn read_expression(heap: Global, bytes: &[u8], at: usize, depth: u8) 
             let test = Box::new(heap, a)?;
             let yes = Box::new(heap, b)?;
             let no = Box::new(heap, c)?;
-            Ok((Expr::Choose { place, test, yes, no }, next))
+            Ok((
+                Expr::Choose {
+                    place,
+                    test,
+                    yes,
+                    no,
+                },
+                next,
+            ))
         }
     }
 }

@@ -1,9 +1,9 @@
 // A table of streams and rules: its records and expressions, and reading them from bytes.
-//mod body;
+mod body;
 mod codes;
 mod expression;
 mod head;
-//pub mod record;
+pub mod record;
 pub mod stop;
-//pub mod table;
+pub mod table;
 pub mod tree;

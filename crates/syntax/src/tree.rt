@@ -8,15 +8,43 @@ use values::value::Value;
 #[derive(Drop)]
 pub enum Expr {
     // A value written in the table.
-    Constant { place: u16, value: Value },
+    Constant {
+        place: u16,
+        value: Value,
+    },
     // The sample of a channel.
-    Channel { place: u16, number: u8 },
+    Channel {
+        place: u16,
+        number: u8,
+    },
     // The value of a stream, so many indexes ahead.
-    Stream { place: u16, number: u8, drop: u8 },
-    Unary { place: u16, op: Unary, operand: Box<Expr> },
-    Cast { place: u16, to: Type, operand: Box<Expr> },
-    Binary { place: u16, op: Binary, left: Box<Expr>, right: Box<Expr> },
-    Choose { place: u16, test: Box<Expr>, yes: Box<Expr>, no: Box<Expr> },
+    Stream {
+        place: u16,
+        number: u8,
+        drop: u8,
+    },
+    Unary {
+        place: u16,
+        op: Unary,
+        operand: Box<Expr>,
+    },
+    Cast {
+        place: u16,
+        to: Type,
+        operand: Box<Expr>,
+    },
+    Binary {
+        place: u16,
+        op: Binary,
+        left: Box<Expr>,
+        right: Box<Expr>,
+    },
+    Choose {
+        place: u16,
+        test: Box<Expr>,
+        yes: Box<Expr>,
+        no: Box<Expr>,
+    },
 }
 
 // The first bytes of an expression: all of it but its operands.

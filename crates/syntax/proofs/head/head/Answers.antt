@@ -23,6 +23,7 @@ returns-in-Some c = record { value = grind (arith, tells); inside = search needs
 pub returns-in-Some-2 : need.returns-in-Some-2
 unfolding head
 returns-in-Some-2 c =
-    record
-    { value = grind (arith, tells)
-    ; inside = elim (c .rest .result) as (λ r. made r (λ _. (0 < c .args .depth) × (c .args .at < length (c .args .bytes .now)))) [ Ok p ↦ (omega arith, omega arith) | Err x ↦ tt ] }
+    record {
+      value = grind (arith, tells);
+      inside = elim (c .rest .result) as (λ r. made r (λ _. (0 < c .args .depth) × (c .args .at < length (c .args .bytes .now)))) [ Ok p ↦ (omega arith, omega arith) | Err x ↦ tt ];
+    }
