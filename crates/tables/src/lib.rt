@@ -1,0 +1,2 @@
+// The check of a table, and the line that tells its answer.
+pub mod check;
