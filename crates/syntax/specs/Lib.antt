@@ -5,3 +5,4 @@ pub mod Heads
 pub mod Parsing
 pub mod Entries
 pub mod Reading
+pub mod Written
