@@ -111,8 +111,8 @@ module _ (bs : List ℕ) (small : All (λ b. b < 256) bs) where
       let g = first (code (type-of v)) (encoded v) (at + 1) n (f .2) h in
       ap (λ x. then x (grown (parse d bs) at))
       (head-is d at Constant (f .0) (f .1)
-       ∙ ap (λ x. then x (λ t n. then (value-from bs t n) (λ v m. Ok (node.Constant v, m)))) (type-is (type-of v) (at + 1) (g .0) (g .1))
-       ∙ ap (λ x. then x (λ v m. Ok (node.Constant v, m))) (value-is v (at + 1 + 1) n (g .2) h b))
+      ∙ ap (λ x. then x (λ t n. then (value-from bs t n) (λ v m. Ok (node.Constant v, m)))) (type-is (type-of v) (at + 1) (g .0) (g .1))
+      ∙ ap (λ x. then x (λ v m. Ok (node.Constant v, m))) (value-is v (at + 1 + 1) n (g .2) h b))
   complete (suc d) (channel p i) at n s h b =
       let f = first 0x02 (i ∷ []) at n s h in
       let g = first i [] (at + 1) n (f .2) h in
@@ -133,7 +133,7 @@ module _ (bs : List ℕ) (small : All (λ b. b < 256) bs) where
       let lt = k .0 in
       ap (λ x. then x (grown (parse d bs) at))
       (head-is d at Stream (f .0) (f .1) ∙ cond-true _ _ _ (lt-ltb (at + 1) (length bs) (g .0)) ∙ cond-true _ _ _ (lt-ltb (at + 2) (length bs) (omega (arith, lt)))
-       ∙ cond-false _ _ _ (le-ltb 63 (getD bs (at + 2) 0) (omega (arith, y, b))) ∙ (λ j. Ok (node.Stream (c j) (y j), m j)))
+      ∙ cond-false _ _ _ (le-ltb 63 (getD bs (at + 2) 0) (omega (arith, y, b))) ∙ (λ j. Ok (node.Stream (c j) (y j), m j)))
   complete (suc d) (unary p o e) at n s h b =
       let f = first (op-code (Unary o)) (written e) at n s h in
       ap (λ x. then x (grown (parse d bs) at)) (head-is d at (Unary o) (f .0) (f .1))

@@ -53,15 +53,21 @@ module _ (bs : List ℕ) (small : All (λ b. b < 256) bs) where
       good-then (T-at bs small at) (B-at Stream at) (type-from bs at) _ (sound-type bs small at) (λ t l p.
       good-then (C-at 64 l) (B-at Stream at) (at-most 64 bs l) _ (sound-count 64 l) (λ c m q.
       good-then (M-at encoded (Has-type t) c m) (B-at Stream at) (many (value-from bs t) c m) _ (sound-many encoded (Has-type t) (value-from bs t) (sound-value bs small t) c m (q .1)) (λ vs n g.
-      good-then (E-at bs small 12 n) (B-at Stream at) (parse 12 bs n) _ (sound bs small 12 n) (λ e k h.
-      ( subst (λ j. Stands bs at (code t ∷ (j ∷ (joined encoded vs ++ written e))) k) (sym (g .2)) (join (p .0) (join (q .0) (join (g .0) (h .0))))
-      , h .1, (let z = q .2 in omega (arith, g .2, z), g .3, h .2), refl)))))
+      good-then (E-at bs small 12 n) (B-at Stream at) (parse 12 bs n) _ (sound bs small 12 n) (λ e k h. (
+        subst (λ j. Stands bs at (code t ∷ (j ∷ (joined encoded vs ++ written e))) k) (sym (g .2)) (join (p .0) (join (q .0) (join (g .0) (h .0)))),
+        h .1,
+        (let z = q .2 in omega (arith, g .2, z), g .3, h .2),
+        refl,
+      )))))
   sound-body Rule at =
       good-then (C-at 4 at) (B-at Rule at) (at-most 4 bs at) _ (sound-count 4 at) (λ c m q.
       good-then (E-at bs small 12 m) (B-at Rule at) (parse 12 bs m) _ (sound bs small 12 m) (λ e n h.
-      good-then (M-at written (Bounded 12) c n) (B-at Rule at) (many (parse 12 bs) c n) _ (sound-many written (Bounded 12) (parse 12 bs) (sound bs small 12) c n (h .1)) (λ es k g.
-      ( subst (λ j. Stands bs at (j ∷ (written e ++ joined written es)) k) (sym (g .2)) (join (q .0) (join (h .0) (g .0)))
-      , g .1, (let z = q .2 in omega (arith, g .2, z), h .2, g .3), refl))))
+      good-then (M-at written (Bounded 12) c n) (B-at Rule at) (many (parse 12 bs) c n) _ (sound-many written (Bounded 12) (parse 12 bs) (sound bs small 12) c n (h .1)) (λ es k g. (
+        subst (λ j. Stands bs at (j ∷ (written e ++ joined written es)) k) (sym (g .2)) (join (q .0) (join (h .0) (g .0))),
+        g .1,
+        (let z = q .2 in omega (arith, g .2, z), h .2, g .3),
+        refl,
+      ))))
 
   abbrev pub W-at : Kind → ℕ → Entry → ℕ → Type 0
   W-at k at r n = Stands bs at (payload r) n × (n ≡ length bs) × Small r × (kind-of r ≡ k)
@@ -115,7 +121,10 @@ module _ (bs : List ℕ) (small : All (λ b. b < 256) bs) where
       good-weaker (W-at part byte-part k (at + 3)) (R-at before at) (filled k part (at + 3)) (sound-filled part byte-part k (at + 3)) (λ r n p.
       let z : n ≡ end = p .1 ∙ front-long bs end (f .1) in
       let inside = widened bs end (f .1) (omega (arith, z)) (p .0) in
-      let h0 = f .0 in
-      ( subst (λ x. Stands bs at (write-entry r) x) (sym z) (entry-stands at end k r f (subst (λ x. Stands bs (at + 3) (payload r) x) z inside) (p .3))
-      , omega (arith, f .1, z), omega (arith, h0, z), p .2
-      , subst (λ x. count x before < limit x) (sym (p .3)) (ltb-true (count k before) (limit k) room)))))
+      let h0 = f .0 in (
+        subst (λ x. Stands bs at (write-entry r) x) (sym z) (entry-stands at end k r f (subst (λ x. Stands bs (at + 3) (payload r) x) z inside) (p .3)),
+        omega (arith, f .1, z),
+        omega (arith, h0, z),
+        p .2,
+        subst (λ x. count x before < limit x) (sym (p .3)) (ltb-true (count k before) (limit k) room),
+      ))))

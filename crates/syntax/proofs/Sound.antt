@@ -81,13 +81,17 @@ module _ (bs : List ℕ) (small : All (λ b. b < 256) bs) where
   sound-after : (at : ℕ) (o : Op) → at < length bs → getD bs at 0 ≡ op-code o → Good (H-at at) (after bs at o)
   sound-after at Constant h e =
       good-then (T-at (at + 1)) (H-at at) (type-from bs (at + 1)) _ (sound-type (at + 1)) (λ t n p.
-      good-then (V-at t n) (H-at at) (value-from bs t n) _ (sound-value t n) (λ v m q.
-      ( subst (λ k. Stands bs at (0x01 ∷ (code k ∷ encoded v)) m) (sym (q .2 .0)) (join (as-byte (byte at (omega arith)) e) (join (p .0) (q .0)))
-      , q .1, q .2 .1)))
+      good-then (V-at t n) (H-at at) (value-from bs t n) _ (sound-value t n) (λ v m q. (
+        subst (λ k. Stands bs at (0x01 ∷ (code k ∷ encoded v)) m) (sym (q .2 .0)) (join (as-byte (byte at (omega arith)) e) (join (p .0) (q .0))),
+        q .1,
+        q .2 .1,
+      )))
   sound-after at Channel h e =
-      good-if (H-at at) (ltb (at + 1) (length bs)) _ _ (λ b. let g = ltb-true (at + 1) (length bs) b in
-      ( subst (λ n. Stands bs at (0x02 ∷ (getD bs (at + 1) 0 ∷ [])) n) (omega arith) (join (as-byte (byte at (omega arith)) e) (byte (at + 1) (omega arith)))
-      , omega arith, tt))
+      good-if (H-at at) (ltb (at + 1) (length bs)) _ _ (λ b. let g = ltb-true (at + 1) (length bs) b in (
+        subst (λ n. Stands bs at (0x02 ∷ (getD bs (at + 1) 0 ∷ [])) n) (omega arith) (join (as-byte (byte at (omega arith)) e) (byte (at + 1) (omega arith))),
+        omega arith,
+        tt,
+      ))
   sound-after at Stream h e =
       good-if (H-at at) (ltb (at + 1) (length bs)) _ _ (λ b. good-if (H-at at) (ltb (at + 2) (length bs)) _ _ (λ c. let g = ltb-true (at + 2) (length bs) c in
       good-unless (H-at at) (ltb 63 (getD bs (at + 2) 0)) _ _ (λ f.

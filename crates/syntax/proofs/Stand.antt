@@ -35,9 +35,10 @@ module _ {bs : List ℕ} where
 
   pub chunk : (at k : ℕ) → at + k ≤ length bs → Stands bs at (take k (drop at bs)) (at + k)
   chunk at k h =
-      record
-      { here = sym (take-append-drop k (drop at bs)) ∙ ap (λ l. take k (drop at bs) ++ l) (drop-drop k at bs)
-      ; next = omega (arith, length-take-le k (drop at bs) (omega (arith, length-drop at bs))) }
+      record {
+        here = sym (take-append-drop k (drop at bs)) ∙ ap (λ l. take k (drop at bs) ++ l) (drop-drop k at bs);
+        next = omega (arith, length-take-le k (drop at bs) (omega (arith, length-drop at bs)));
+      }
 
   pub as-byte : {at n b : ℕ} → Stands bs at (getD bs at 0 ∷ []) n → getD bs at 0 ≡ b → Stands bs at (b ∷ []) n
   as-byte {at} {n} p e = subst (λ x. Stands bs at (x ∷ []) n) e p
@@ -47,9 +48,10 @@ module _ {bs : List ℕ} where
   split u v a c s =
       let e = s .next in
       let rest : drop (a + length u) bs ≡ v ++ drop c bs =
-          sym (drop-drop (length u) a bs) ∙ ap (drop (length u)) (s .here ∙ append-assoc u v (drop c bs)) ∙ drop-at u (v ++ drop c bs) (length u) refl in
-      ( record { here = s .here ∙ append-assoc u v (drop c bs) ∙ ap (λ l. u ++ l) (sym rest); next = refl }
-      , record { here = rest; next = omega (arith, length-append u v, e) } )
+      sym (drop-drop (length u) a bs) ∙ ap (drop (length u)) (s .here ∙ append-assoc u v (drop c bs)) ∙ drop-at u (v ++ drop c bs) (length u) refl in (
+        record { here = s .here ∙ append-assoc u v (drop c bs) ∙ ap (λ l. u ++ l) (sym rest); next = refl },
+        record { here = rest; next = omega (arith, length-append u v, e) },
+      )
 
   pub first : (b : ℕ) (ws : List ℕ) (a c : ℕ) → Stands bs a (b ∷ ws) c → c ≤ length bs → (a < length bs) × (getD bs a 0 ≡ b) × Stands bs (a + 1) ws c
   first b ws a c s h =
@@ -72,11 +74,12 @@ module _ (bs : List ℕ) (end : ℕ) (long : end ≤ length bs) where
   pub widened : {at n : ℕ} {ws : List ℕ} → n ≤ end → Stands (take end bs) at ws n → Stands bs at ws n
   widened {at} {n} {ws} h s =
       let e = s .next in
-      record
-      { here =
-        apart at (omega (arith, e)) ∙ ap (λ l. l ++ drop end bs) (s .here) ∙ append-assoc ws (drop n (take end bs)) (drop end bs)
-        ∙ ap (λ l. ws ++ l) (sym (apart n h))
-      ; next = e }
+      record {
+        here =
+            apart at (omega (arith, e)) ∙ ap (λ l. l ++ drop end bs) (s .here) ∙ append-assoc ws (drop n (take end bs)) (drop end bs)
+            ∙ ap (λ l. ws ++ l) (sym (apart n h));
+        next = e;
+      }
 
   -- and the other way, where it ends in the front
   pub narrowed : {at n : ℕ} {ws : List ℕ} → n ≤ end → Stands bs at ws n → Stands (take end bs) at ws n
@@ -87,7 +90,7 @@ module _ (bs : List ℕ) (end : ℕ) (long : end ≤ length bs) where
       let y = ws ++ drop n (take end bs) in
       let tail = drop end bs in
       let same : x ++ tail ≡ y ++ tail =
-          sym (apart at (omega (arith, e))) ∙ s .here ∙ ap (λ r. ws ++ r) (apart n h) ∙ sym (append-assoc ws (drop n (take end bs)) tail) in
+      sym (apart at (omega (arith, e))) ∙ s .here ∙ ap (λ r. ws ++ r) (apart n h) ∙ sym (append-assoc ws (drop n (take end bs)) tail) in
       let long-x : length x ≡ end - at = omega (arith, length-drop at (take end bs), l) in
       let long-y : length y ≡ end - at = omega (arith, length-append ws (drop n (take end bs)), length-drop n (take end bs), l, e) in
       record { here = sym (take-at x tail (end - at) long-x) ∙ ap (take (end - at)) same ∙ take-at y tail (end - at) long-y; next = e }

@@ -5,8 +5,11 @@ use mathlib.Core.List.{List, [], _∷_, _++_}
 use Prim.Native.Nat.{ℕ, zero, suc, _+_, _-_, _<_, _≤_}
 use native.Mathlib.Omega.{arith}
 use lib.Dec.{ltb}
-use lib.ListN.{length, take}
-use Rattle.std.proofs.shelf.Tests.{lt-ltb, le-ltb, cond-true, cond-false}
+use lib.ListN.{length, getD, take}
+use Rattle.std.proofs.shelf.Tests.{eq-eqb, lt-ltb, le-ltb, le-leb, cond-true, cond-false}
+use Rattle.std.specs.declared.alloc.Global.{Global}
+use Rattle.std.specs.declared.vec.Vec.{Vec}
+use Rattle.syntax.specs.declared.record.Record.{Record}
 use Rattle.std.specs.declared.result.Result.{Result}
 use Rattle.std.specs.declared.result.Result.the-variants.{Ok, Err}
 use Rattle.faults.specs.declared.cause.Cause.{Cause}
@@ -16,7 +19,7 @@ use Rattle.syntax.specs.Answers.{then, Gives}
 use Rattle.faults.specs.declared.cause.Cause.the-variants.{Limit}
 use Rattle.syntax.specs.declared.record.Kind.{Kind}
 use Rattle.syntax.specs.Entries.{Entry, entry-of, count, limit}
-use Rattle.syntax.specs.Reading.{entry-from, entries, Yields, frame, filled, body}
+use Rattle.syntax.specs.Reading.{entry-from, entries, read-table, Yields, Begun, frame, filled}
 
 module _ (whole : Result (List Entry) Cause) (bs : List ℕ) (items : List Entry) (at : ℕ) where
   pub entries-more : (f : ℕ) (r : Entry) (n : ℕ) → at < length bs → length bs ≤ at + f → entry-from items bs at ≡ Ok (r, n) → whole ≡ entries f items bs at → whole ≡ entries (f - 1) (items ++ (r ∷ [])) bs n
@@ -30,9 +33,9 @@ module _ (whole : Result (List Entry) Cause) (bs : List ℕ) (items : List Entry
   entries-err zero x h g e w = absurd (omega arith)
   entries-err (suc f) x h g e w = w ∙ cond-true _ _ _ (lt-ltb at (length bs) h) ∙ ap (λ x. then x (λ r n. entries f (items ++ (r ∷ [])) bs n)) e
 
-  pub entries-stopped : (s : Stop) (f : ℕ) → at < length bs → length bs ≤ at + f → Gives entry-of (Err s) (entry-from items bs at) → whole ≡ entries f items bs at → Yields (Err s) whole
-  entries-stopped (Refused x) f h l e w = entries-err f x h l e w
-  entries-stopped Memory f h l e w = tt
+  pub entries-stopped : {starved : Type 0} (s : Stop) (f : ℕ) → starved → at < length bs → length bs ≤ at + f → Gives entry-of (Err s) (entry-from items bs at) → whole ≡ entries f items bs at → Yields starved (Err s) whole
+  entries-stopped (Refused x) f m h l e w = entries-err f x h l e w
+  entries-stopped Memory f m h l e w = m
 
   pub entries-end : (f : ℕ) → length bs ≤ at → whole ≡ entries f items bs at → whole ≡ Ok items
   unfolding entries
@@ -52,3 +55,14 @@ module _ (before : List Entry) (bs : List ℕ) (at : ℕ) where
   pub entry-filled : (k : Kind) (end : ℕ) → Ok (k, end) ≡ frame bs at → count k before < limit k → entry-from before bs at ≡ filled k (take (end - 0) bs) (at + 3)
   entry-filled k end e h =
       entry-step k end e ∙ cond-true _ _ _ (lt-ltb (count k before) (limit k) h) ∙ ap (λ n. filled k (take n bs) (at + 3)) (omega arith)
+
+-- a table whose version and size pass is its records
+module _ (bs : List ℕ) (version : getD bs 0 0 ≡ 1) (size : length bs ≤ 8192) where
+  table-is : read-table bs ≡ entries (length bs) [] bs 1
+  unfolding read-table
+  table-is = cond-true _ _ _ (eq-eqb (getD bs 0 0) 1 version) ∙ cond-true _ _ _ (le-leb (length bs) 8192 size)
+
+  pub table-yields : (r : Result (Vec Record Global) Stop) → Yields (1 < length bs) r (entries (length bs) [] bs 1) → Yields (Begun bs) r (read-table bs)
+  table-yields (Ok records) e = table-is ∙ e
+  table-yields (Err (Refused x)) e = table-is ∙ e
+  table-yields (Err Memory) more = (version, size, more)

@@ -54,9 +54,9 @@ counted : (rs : List Entry) (r : Entry) → ((k : Kind) → count k rs ≤ limit
 counted rs r all room k =
     let e = count-push k rs r in
     let at-k : count k rs + cond (eqb (kind-code (kind-of r)) (kind-code k)) 1 0 ≤ limit k =
-        cond-both (eqb (kind-code (kind-of r)) (kind-code k)) 1 0 (λ n. count k rs + n ≤ limit k)
-        (λ t. let h = subst (λ x. count x rs < limit x) (same-kind (kind-of r) k (eqb-true (kind-code (kind-of r)) (kind-code k) t)) room in omega (arith, h))
-        (λ t. let h = all k in omega (arith, h)) in
+    cond-both (eqb (kind-code (kind-of r)) (kind-code k)) 1 0 (λ n. count k rs + n ≤ limit k)
+    (λ t. let h = subst (λ x. count x rs < limit x) (same-kind (kind-of r) k (eqb-true (kind-code (kind-of r)) (kind-code k) t)) room in omega (arith, h))
+    (λ t. let h = all k in omega (arith, h)) in
     omega (arith, e, at-k)
 
 nonempty : (bs : List ℕ) → getD bs 0 0 ≡ 1 → 0 < length bs

@@ -2,7 +2,7 @@
 use mathlib.Core.Bool.{cond}
 use mathlib.Core.Path.{_≡_}
 use mathlib.Core.List.{List, [], _∷_, _++_}
-use Prim.Native.Nat.{ℕ, zero, suc, _+_, _*_}
+use Prim.Native.Nat.{ℕ, zero, suc, _+_, _*_, _≤_, _<_}
 use lib.Dec.{ltb, leb, eqb}
 use lib.ListN.{length, getD, take}
 use Rattle.std.specs.declared.alloc.Global.{Global}
@@ -72,8 +72,12 @@ unfoldable pub read-table : List ℕ → Result (List Entry) Cause
 read-table bs =
     cond (eqb (getD bs 0 0) 1) (cond (leb (length bs) 8192) (entries (length bs) [] bs 1) (Err (Limit 8192))) (Err Version)
 
--- the answer is the records that were found, or why there are none; nothing is said where memory fails
-abbrev pub Yields : Result (Vec Record Global) Stop → Result (List Entry) Cause → Type 0
-Yields (Ok records) found = found ≡ Ok (entries-of records)
-Yields (Err (Refused x)) found = found ≡ Err x
-Yields (Err Memory) found = Unit {0}
+-- the answer is the records that were found, or why there are none; where memory fails, `starved` holds
+abbrev pub Yields : Type 0 → Result (Vec Record Global) Stop → Result (List Entry) Cause → Type 0
+Yields starved (Ok records) found = found ≡ Ok (entries-of records)
+Yields starved (Err (Refused x)) found = found ≡ Err x
+Yields starved (Err Memory) found = starved
+
+-- there is a record to read: the version is right, the size passes, and more bytes follow; before that no memory is asked for
+abbrev pub Begun : List ℕ → Type 0
+Begun bs = (getD bs 0 0 ≡ 1) × (length bs ≤ 8192) × (1 < length bs)

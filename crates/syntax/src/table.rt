@@ -6,8 +6,9 @@ ghost use lib.ListN.{length};
 ghost use Rattle.std.specs.Vec.{made};
 ghost use Rattle.std.specs.Of.Vec.{vec-items};
 ghost use Rattle.syntax.specs.Answers.{Gives};
-ghost use Rattle.syntax.specs.Entries.{entry-of, entries-of};
-ghost use Rattle.syntax.specs.Reading.{frame, entry-from, entries, read-table, Yields};
+ghost use Rattle.syntax.specs.Entries.{entry-of};
+ghost use Rattle.syntax.specs.Reading.{frame, entry-from, entries, read-table, Yields, Begun};
+ghost use Rattle.syntax.specs.Written.{Accepts-written};
 use crate::body::read_filled;
 use crate::record::Kind;
 use crate::record::Record;
@@ -69,7 +70,7 @@ fn read_record(
 // The records after the version byte.
 fn read_records(heap: Global, bytes: &[u8]) -> Result<Vec<Record>, Stop>
     requires { ⌜ length (now bytes) ≤ 8192 ⌝ }
-    ensures { λ r. ⌜ Yields r (entries (length (now (bytes .entry))) [] (now (bytes .entry)) 1) ⌝ }
+    ensures { λ r. ⌜ Yields (1 < length (now (bytes .entry))) r (entries (length (now (bytes .entry))) [] (now (bytes .entry)) 1) ⌝ }
 {
     let mut records = Vec::new(heap);
     let mut at = 1;
@@ -83,7 +84,8 @@ fn read_records(heap: Global, bytes: &[u8]) -> Result<Vec<Record>, Stop>
 
 // The records of a table, or why the bytes are none.
 pub fn read_table(heap: Global, bytes: &[u8]) -> Result<Vec<Record>, Stop>
-    ensures { λ r. ⌜ Yields r (read-table (now (bytes .entry))) ⌝ }
+    ensures answer { λ r. ⌜ Yields (Begun (now (bytes .entry))) r (read-table (now (bytes .entry))) ⌝ }
+    ensures law { λ _. ⌜ Accepts-written (now (bytes .entry)) ⌝ }
 {
     if bytes.is_empty() || bytes[0] != VERSION {
         return Err(Stop::Refused(Cause::Version));

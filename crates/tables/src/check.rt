@@ -23,7 +23,7 @@ pub struct Counts {
 
 // Reads a table and counts its records, or says why the bytes are none.
 pub fn check(heap: Global, bytes: &[u8]) -> Result<Counts, Stop>
-    ensures { λ r. ⌜ Counted r (read-table (now (bytes .entry))) ⌝ }
+    ensures { λ r. ⌜ Counted r (now (bytes .entry)) ⌝ }
 {
     let records = read_table(heap, bytes)?;
     let channels = count(&records, Kind::Channel);

@@ -8,7 +8,10 @@ use Rattle.syntax.specs.Reading.{entries}
 use Rattle.syntax.proofs.table.read_records.Given as given
 
 abbrev pub Inv-loop-at : given.InvT-loop-at
-Inv-loop-at l = (f : ℕ) × (length (l .bytes) ≤ l .at + f) × (entries (length (l .bytes)) [] (l .bytes) 1 ≡ entries f (map entry-of (vec-items (l .records))) (l .bytes) (l .at))
+Inv-loop-at l =
+    (1 ≤ l .at)
+    × ((f : ℕ) × (length (l .bytes) ≤ l .at + f)
+    × (entries (length (l .bytes)) [] (l .bytes) 1 ≡ entries f (map entry-of (vec-items (l .records))) (l .bytes) (l .at)))
 
 abbrev pub μ-loop-at : given.MeasureT-loop-at
 μ-loop-at l = length (l .bytes) - l .at
