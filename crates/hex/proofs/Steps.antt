@@ -26,10 +26,6 @@ odd-none (x ∷ (y ∷ xs)) h =
 abbrev pub onto : List ℕ → Option (List ℕ) → Option (List ℕ)
 onto xs o = mapped (λ bs. xs ++ bs) o
 
-onto-none : (o : Option (List ℕ)) → o ≡ onto [] o
-onto-none None = refl
-onto-none (Some bs) = refl
-
 onto-one : (xs : List ℕ) (b : ℕ) (o : Option (List ℕ)) → onto xs (mapped (λ bs. b ∷ bs) o) ≡ onto (xs ++ (b ∷ [])) o
 onto-one xs b None = refl
 onto-one xs b (Some bs) = ap (λ l. Some l) (sym (append-assoc xs (b ∷ []) bs))
@@ -58,7 +54,3 @@ module _ (text : List ℕ) (i : ℕ) where
     pub all : length text ≤ 2 * i → bytes-of text ≡ Some items
     unfolding bytes-of
     all h = w ∙ at-drop-all (λ l. onto items (bytes-of l)) text (2 * i) h ∙ ap (λ l. Some l) (append-nil items)
-
--- before the first byte
-pub start : (text : List ℕ) → bytes-of text ≡ onto [] (bytes-of (drop (2 * 0) text))
-start text = onto-none (bytes-of text)
