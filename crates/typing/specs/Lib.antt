@@ -1,0 +1,4 @@
+pub mod Scopes
+pub mod Rules
+pub mod Typing
+pub mod Judging
