@@ -7,7 +7,7 @@ use Rattle.std.specs.shelf.Text.{sameBytes}
 use Rattle.std.specs.declared.option.Option.{Option}
 use Rattle.std.specs.declared.option.Option.the-variants.{Some, None}
 use Rattle.hex.specs.Hexadecimal.{bytes-of}
-use Rattle.syntax.specs.Reading.{read-table}
+use Rattle.tables.specs.Checking.{checked}
 use Rattle.tables.specs.Lines.{line}
 
 -- the bytes of a table that a line writes: - for none, else hexadecimal
@@ -16,5 +16,5 @@ table-of text = cond (sameBytes text (codes "-")) (Some []) (bytes-of text)
 
 -- what a table's bytes are
 abbrev pub told : Option (List ℕ) → List ℕ
-told (Some bytes) = line (read-table bytes)
+told (Some bytes) = line (checked bytes)
 told None = codes "not hexadecimal"
