@@ -13,7 +13,7 @@ returns-in-Break-check-types c =
     let p = err-from-errBy (c .from-residual-in-Break-check-types .result) (c .from-residual-in-Break-check-types .ensures .1) in
     let records = c .in-Continue-records .records in
     let named : undeclared-in (entries-of records) ≡ Ok tt =
-        ap (λ l. undeclared-in (map entry-of l)) (sym (c .deref .ensures .value)) ∙ sym (c .in-Continue-check-names .ensures tt) in
+    ap (λ l. undeclared-in (map entry-of l)) (sym (c .deref .ensures .value)) ∙ sym (c .in-Continue-check-names .ensures tt) in
     let typed = subst (λ l. Typed (Err (c .in-Break-check-types .field-0 .0)) (map entry-of l)) (c .deref-2 .ensures .value) (c .in-Break-check-types .ensures tt) in
     rw (p .1, p .2)
     (types-stopped (c .args .bytes .now) (entries-of records) (c .in-Continue-records .ensures tt .answer) named (c .in-Continue-records .ensures tt .law) _ typed)
