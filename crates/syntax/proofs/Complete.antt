@@ -53,7 +53,7 @@ code-back (Binary Less) = refl
 code-back (Binary AtMost) = refl
 code-back Choose = refl
 
-type-back : (t : Ty) → type-coded (code t) ≡ Some t
+pub type-back : (t : Ty) → type-coded (code t) ≡ Some t
 type-back type.Bool = refl
 type-back type.Word8 = refl
 type-back type.Word16 = refl
