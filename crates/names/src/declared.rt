@@ -23,7 +23,7 @@ fn check_expression(e: &Expr, declared: Declared) -> Result<(), Cause>
     ensures { λ r. ⌜ r ≡ undeclared (declared .channels) (declared .streams) (uses (exp (now (e .entry)))) ⌝ }
 {
     match e {
-        Expr::Constant { place: _, value: _ } => Ok(()),
+        Expr::Constant { .. } => Ok(()),
         Expr::Channel { place, number } => {
             if usize::from(*number) < declared.channels {
                 Ok(())
@@ -31,42 +31,20 @@ fn check_expression(e: &Expr, declared: Declared) -> Result<(), Cause>
                 Err(Cause::Undeclared(usize::from(*place) + 1))
             }
         }
-        Expr::Stream {
-            place,
-            number,
-            drop: _,
-        } => {
+        Expr::Stream { place, number, .. } => {
             if usize::from(*number) < declared.streams {
                 Ok(())
             } else {
                 Err(Cause::Undeclared(usize::from(*place) + 1))
             }
         }
-        Expr::Unary {
-            place: _,
-            op: _,
-            operand,
-        } => check_expression(operand, declared),
-        Expr::Cast {
-            place: _,
-            to: _,
-            operand,
-        } => check_expression(operand, declared),
-        Expr::Binary {
-            place: _,
-            op: _,
-            left,
-            right,
-        } => {
+        Expr::Unary { operand, .. } => check_expression(operand, declared),
+        Expr::Cast { operand, .. } => check_expression(operand, declared),
+        Expr::Binary { left, right, .. } => {
             check_expression(left, declared)?;
             check_expression(right, declared)
         }
-        Expr::Choose {
-            place: _,
-            test,
-            yes,
-            no,
-        } => {
+        Expr::Choose { test, yes, no, .. } => {
             check_expression(test, declared)?;
             check_expression(yes, declared)?;
             check_expression(no, declared)

@@ -39,13 +39,9 @@ pub(crate) fn shape(e: &Expr, scope: &Scope, depth: u8) -> Result<Type, Cause>
         return Err(Cause::Limit(place(e)));
     }
     match e {
-        Expr::Constant { place: _, value } => Ok(value.ty()),
-        Expr::Channel { place: _, number } => Ok(scope.channel(*number)),
-        Expr::Stream {
-            place: _,
-            number,
-            drop: _,
-        } => Ok(scope.stream(*number)),
+        Expr::Constant { value, .. } => Ok(value.ty()),
+        Expr::Channel { number, .. } => Ok(scope.channel(*number)),
+        Expr::Stream { number, .. } => Ok(scope.stream(*number)),
         Expr::Unary { place, op, operand } => {
             let a = settled(operand, shape(operand, scope, depth - 1)?)?;
             fitted(*place, unary_type(*op, a))

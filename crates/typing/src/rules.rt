@@ -57,8 +57,7 @@ pub(crate) fn binary_type(op: Binary, left: Type, right: Type) -> Option<Type>
                 None
             }
         }
-        Binary::Add | Binary::Subtract | Binary::Multiply | Binary::Quotient | Binary::Remainder =>
-            { if integer(left) { Some(left) } else { None } }
+        _ => { if integer(left) { Some(left) } else { None } }
     }
 }
 
@@ -66,37 +65,16 @@ pub(crate) fn binary_type(op: Binary, left: Type, right: Type) -> Option<Type>
 pub(crate) fn place(e: &Expr) -> usize
     ensures { λ r. ⌜ r ≡ place (exp (now (e .entry))) ⌝ }
 {
-    match e {
-        Expr::Constant { place, value: _ } => usize::from(*place),
-        Expr::Channel { place, number: _ } => usize::from(*place),
-        Expr::Stream {
-            place,
-            number: _,
-            drop: _,
-        } => usize::from(*place),
-        Expr::Unary {
-            place,
-            op: _,
-            operand: _,
-        } => usize::from(*place),
-        Expr::Cast {
-            place,
-            to: _,
-            operand: _,
-        } => usize::from(*place),
-        Expr::Binary {
-            place,
-            op: _,
-            left: _,
-            right: _,
-        } => usize::from(*place),
-        Expr::Choose {
-            place,
-            test: _,
-            yes: _,
-            no: _,
-        } => usize::from(*place),
-    }
+    let place = match e {
+        Expr::Constant { place, .. } => *place,
+        Expr::Channel { place, .. } => *place,
+        Expr::Stream { place, .. } => *place,
+        Expr::Unary { place, .. } => *place,
+        Expr::Cast { place, .. } => *place,
+        Expr::Binary { place, .. } => *place,
+        Expr::Choose { place, .. } => *place,
+    };
+    usize::from(place)
 }
 
 // Whether an operator divides.
@@ -115,7 +93,7 @@ fn divisor(e: &Expr) -> bool
     ensures { λ r. ⌜ r ≡ divisor (exp (now (e .entry))) ⌝ }
 {
     match e {
-        Expr::Constant { place: _, value } => value.number() != 0,
+        Expr::Constant { value, .. } => value.number() != 0,
         _ => false,
     }
 }
@@ -125,12 +103,7 @@ fn divided(e: &Expr) -> bool
     ensures { λ r. ⌜ r ≡ divided (exp (now (e .entry))) ⌝ }
 {
     match e {
-        Expr::Binary {
-            place: _,
-            op,
-            left: _,
-            right,
-        } => !divides(*op) || divisor(right),
+        Expr::Binary { op, right, .. } => !divides(*op) || divisor(right),
         _ => true,
     }
 }
