@@ -30,7 +30,8 @@ use Rattle.syntax.specs.Trees as tree
 use Rattle.syntax.proofs.Complete.{type-back}
 use Rattle.names.specs.Uses.{Use, uses}
 use Rattle.typing.specs.Rules.{same, where-fit, unary-type, binary-type, place, settled, divided}
-use Rattle.typing.specs.Typing.{then, fitted, operand, formed, shape}
+use Rattle.syntax.specs.Passing.{then}
+use Rattle.typing.specs.Typing.{fitted, operand, formed, shape}
 use Rattle.evaluation.specs.Meaning.{meaning, levels}
 use Rattle.evaluation.specs.Kept.{Of-types, Has-meaning}
 use Rattle.evaluation.proofs.Agreeing.{all-left, all-right}

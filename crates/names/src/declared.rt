@@ -2,8 +2,9 @@
 ghost use mathlib.Core.Path.{_≡_};
 ghost use mathlib.Core.List.{map};
 ghost use Rattle.syntax.specs.Entries.{entry-of};
+ghost use Rattle.syntax.specs.Passing.{every};
 ghost use Rattle.syntax.specs.Trees.{exp};
-ghost use Rattle.names.specs.Uses.{uses, gathered, uses-of};
+ghost use Rattle.names.specs.Uses.{uses, uses-of};
 ghost use Rattle.names.specs.Declaring.{undeclared, undeclared-in};
 use faults::cause::Cause;
 use syntax::record::Kind;
@@ -54,7 +55,7 @@ fn check_expression(e: &Expr, declared: Declared) -> Result<(), Cause>
 
 // The same of several expressions, one after another.
 fn check_expressions(es: &[Expr], declared: Declared) -> Result<(), Cause>
-    ensures { λ r. ⌜ r ≡ undeclared (declared .channels) (declared .streams) (gathered uses (map exp (now (es .entry)))) ⌝ }
+    ensures { λ r. ⌜ r ≡ every (λ e. undeclared (declared .channels) (declared .streams) (uses e)) (map exp (now (es .entry))) ⌝ }
 {
     for e in es {
         check_expression(e, declared)?;
@@ -78,7 +79,7 @@ fn check_record(r: &Record, declared: Declared) -> Result<(), Cause>
 
 // The same of several records, one after another.
 fn check_records(records: &[Record], declared: Declared) -> Result<(), Cause>
-    ensures { λ r. ⌜ r ≡ undeclared (declared .channels) (declared .streams) (gathered uses-of (map entry-of (now (records .entry)))) ⌝ }
+    ensures { λ r. ⌜ r ≡ every (λ e. undeclared (declared .channels) (declared .streams) (uses-of e)) (map entry-of (now (records .entry))) ⌝ }
 {
     for r in records {
         check_record(r, declared)?;

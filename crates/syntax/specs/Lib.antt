@@ -6,3 +6,4 @@ pub mod Parsing
 pub mod Entries
 pub mod Reading
 pub mod Written
+pub mod Passing

@@ -11,7 +11,7 @@ use Rattle.syntax.specs.Entries.{Entry}
 use Rattle.syntax.specs.Reading.{read-table, Begun}
 use Rattle.syntax.specs.Written.{write, Written, Accepts-written}
 use Rattle.names.specs.Declaring.{undeclared-in}
-use Rattle.typing.specs.Typing.{then}
+use Rattle.syntax.specs.Passing.{then}
 use Rattle.typing.specs.Judging.{types-in, Typed}
 use Rattle.tables.specs.Checking.{Counted}
 

@@ -11,7 +11,7 @@ use Rattle.syntax.specs.declared.stop.Stop.the-variants.{Refused, Memory}
 use Rattle.syntax.specs.Entries.{Entry, count}
 use Rattle.syntax.specs.Reading.{read-table, Begun}
 use Rattle.names.specs.Declaring.{undeclared-in}
-use Rattle.typing.specs.Typing.{then}
+use Rattle.syntax.specs.Passing.{then}
 use Rattle.typing.specs.Judging.{types-in}
 use Rattle.tables.specs.declared.check.Counts.{Counts}
 

@@ -14,15 +14,12 @@ use Rattle.values.specs.declared.types.«Type».{«Type» as Ty}
 use Rattle.values.specs.declared.types.«Type».the-variants.{Bool}
 use Rattle.syntax.specs.declared.stop.Stop.{Stop}
 use Rattle.syntax.specs.declared.stop.Stop.the-variants.{Refused, Memory}
+use Rattle.syntax.specs.Passing.{Passed, then, every}
 use Rattle.syntax.specs.Trees.{Exp}
 use Rattle.syntax.specs.Entries.{Entry, channel, stream, rule}
 use Rattle.typing.specs.Scopes.{channel-types, stream-types}
 use Rattle.typing.specs.Rules.{same, place, settled}
-use Rattle.typing.specs.Typing.{then, shape}
-
--- nothing to refuse, or a refusal
-abbrev pub Passed : Type 0
-Passed = Result (Unit {0}) Cause
+use Rattle.typing.specs.Typing.{shape}
 
 -- a type is the one that is wanted, if any is
 abbrev pub fits : Option Ty → Ty → Truth
@@ -32,11 +29,6 @@ fits (Some want) t = same want t
 -- a whole expression: what is in it comes first, then its own type, and its own divisor last
 abbrev pub judged : List Ty → List Ty → Option Ty → Exp → Passed
 judged cs ss want e = then (shape cs ss 12 e) (λ t. cond (fits want t) (then (settled e t) (λ _. Ok tt)) (Err (Mistyped (place e))))
-
--- the first refusal of several parts
-abbrev pub every : {X : Type 0} → (X → Passed) → List X → Passed
-every f [] = Ok tt
-every f (x ∷ xs) = then (f x) (λ _. every f xs)
 
 -- a body has its stream's type; a guard is a Bool, and its arguments, which follow it, have any type
 abbrev pub entry-judged : List Ty → List Ty → Entry → Passed

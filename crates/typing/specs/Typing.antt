@@ -13,13 +13,9 @@ use Rattle.values.specs.declared.types.«Type».{«Type» as Ty}
 use Rattle.values.specs.declared.types.«Type».the-variants.{Bool}
 use Rattle.values.specs.Types.{casts}
 use Rattle.values.specs.Values.{type-of}
+use Rattle.syntax.specs.Passing.{then}
 use Rattle.syntax.specs.Trees.{Exp, constant, channel, stream, unary, cast, binary, choose}
 use Rattle.typing.specs.Rules.{same, where-fit, unary-type, binary-type, place, settled}
-
--- what comes of a result
-abbrev pub then : {X Y : Type 0} → Result X Cause → (X → Result Y Cause) → Result Y Cause
-then (Ok x) f = f x
-then (Err c) f = Err c
 
 -- the type that fits, or that the operator at a place takes none such
 abbrev pub fitted : ℕ → Option Ty → Result Ty Cause

@@ -3,8 +3,9 @@ use mathlib.Core.List.{map}
 use native.Mathlib.Omega.{arith}
 use Rattle.std.proofs.shelf.Lists.{length-map}
 use Rattle.std.proofs.shelf.Results.{err-from-errBy}
+use Rattle.syntax.specs.Passing.{every}
 use Rattle.syntax.specs.Entries.{entry-of}
-use Rattle.typing.specs.Judging.{every, entry-judged}
+use Rattle.typing.specs.Judging.{entry-judged}
 use Rattle.typing.proofs.typed.check_types.Needs as need
 
 pub returns-in-Err : need.returns-in-Err

@@ -5,7 +5,7 @@ use Rattle.std.specs.declared.result.Result.the-variants.{Err}
 use Rattle.std.proofs.shelf.Results.{err-from-errBy}
 use Rattle.syntax.specs.Trees.{exp}
 use Rattle.typing.specs.Judging.{judged}
-use Rattle.typing.proofs.Firsts.{more, stop, end}
+use Rattle.syntax.proofs.Passing.{more, stop, end}
 use Rattle.typing.proofs.typed.judge_arguments.Needs as need
 
 pub returns-in-Break-judge : need.returns-in-Break-judge

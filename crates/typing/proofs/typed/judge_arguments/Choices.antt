@@ -4,7 +4,8 @@ use lib.ListN.{drop}
 use Rattle.std.specs.Of.Vec.{vec-items}
 use Rattle.std.specs.declared.option.Option.the-variants.{None}
 use Rattle.syntax.specs.Trees.{exp}
-use Rattle.typing.specs.Judging.{every, judged}
+use Rattle.syntax.specs.Passing.{every}
+use Rattle.typing.specs.Judging.{judged}
 use Rattle.typing.proofs.typed.judge_arguments.Given as given
 
 abbrev pub Inv-loop-e : given.InvT-loop-e

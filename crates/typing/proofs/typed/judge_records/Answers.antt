@@ -4,7 +4,7 @@ use Rattle.std.specs.declared.result.Result.the-variants.{Err}
 use Rattle.std.proofs.shelf.Results.{err-from-errBy}
 use Rattle.syntax.specs.Entries.{entry-of}
 use Rattle.typing.specs.Judging.{entry-judged}
-use Rattle.typing.proofs.Firsts.{more, stop, end}
+use Rattle.syntax.proofs.Passing.{more, stop, end}
 use Rattle.typing.proofs.typed.judge_records.Needs as need
 
 pub returns-in-Break-judge-record : need.returns-in-Break-judge-record

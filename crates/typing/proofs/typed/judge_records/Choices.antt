@@ -3,7 +3,8 @@ use mathlib.Core.List.{map}
 use lib.ListN.{drop}
 use Rattle.std.specs.Of.Vec.{vec-items}
 use Rattle.syntax.specs.Entries.{entry-of}
-use Rattle.typing.specs.Judging.{every, entry-judged}
+use Rattle.syntax.specs.Passing.{every}
+use Rattle.typing.specs.Judging.{entry-judged}
 use Rattle.typing.proofs.typed.judge_records.Given as given
 
 abbrev pub Inv-loop-r : given.InvT-loop-r

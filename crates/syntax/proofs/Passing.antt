@@ -1,14 +1,22 @@
--- The first refusal of several parts: a loop's steps. Assumes nothing.
-use mathlib.Core.Path.{_≡_, sym, ap, _∙_}
-use mathlib.Core.List.{List, map}
+-- The first refusal of several parts: of lists one after another, and a loop's steps. Assumes nothing.
+use mathlib.Core.Path.{_≡_, refl, sym, ap, _∙_}
+use mathlib.Core.List.{List, [], _∷_, _++_, map}
 use Prim.Native.Nat.{ℕ, _+_, _<_, _≤_}
 use lib.ListN.{length, getD, drop}
 use Rattle.std.proofs.shelf.Lists.{at-drop-more, at-drop-all}
 use Rattle.std.specs.declared.result.Result.the-variants.{Ok, Err}
 use Rattle.faults.specs.declared.cause.Cause.{Cause}
-use Rattle.typing.specs.Typing.{then}
-use Rattle.typing.specs.Judging.{Passed, every}
+use Rattle.syntax.specs.Passing.{Passed, then, every}
 
+then-then : (r s : Passed) (t : Passed) → then (then r (λ _. s)) (λ _. t) ≡ then r (λ _. then s (λ _. t))
+then-then (Ok u) s t = refl
+then-then (Err c) s t = refl
+
+pub every-append : {X : Type 0} (f : X → Passed) (xs ys : List X) → every f (xs ++ ys) ≡ then (every f xs) (λ _. every f ys)
+every-append f [] ys = refl
+every-append f (x ∷ xs) ys = ap (λ r. then (f x) (λ _. r)) (every-append f xs ys) ∙ sym (then-then (f x) (every f xs) (every f ys))
+
+-- a loop over parts
 module _ {X Y : Type 0} (f : Y → Passed) (g : X → Y) (xs : List X) (i : ℕ) {whole : Passed} (inv : whole ≡ every f (map g (drop i xs))) where
   step : (x : X) → i < length xs → x ≡ getD xs i x → whole ≡ then (f (g x)) (λ _. every f (map g (drop (i + 1) xs)))
   step x h is =
