@@ -34,7 +34,7 @@ pub wrap-bits : (t : Ty) (z : ℤ) → natAbs z ≤ 2 ^ 127 → wrap t (toZ w128
 wrap-bits t (pos n) h = wrap-wide t _ _ (narrow (signed-same w128 n (omega arith)))
 wrap-bits t (negsuc n) h = wrap-wide t _ _ (narrow (chain (signed-same w128 (2 ^ 128 - suc n) (omega arith)) (below-zero n (omega arith))))
 
-neg-abs : (n : ℕ) → natAbs (negℤ (pos n)) ≡ n
+pub neg-abs : (n : ℕ) → natAbs (negℤ (pos n)) ≡ n
 neg-abs n = omega (arith, ints)
 
 pub quot-le : (a b : ℤ) → natAbs (quotZ a b) ≤ natAbs a
