@@ -1,5 +1,4 @@
 // Reads a table from standard input, and prints what it is or why it is refused.
-ghost use mathlib.Core.Path.{_≡_};
 ghost use Prim.Native.Nat.{_≤_};
 ghost use lib.ListN.{length};
 ghost use Rattle.std.specs.Vec.{made};

@@ -5,7 +5,7 @@ use Prim.Native.Nat.{ℕ}
 use Rattle.std.specs.shelf.Lists.{All}
 use Rattle.values.specs.declared.value.Value.{Value}
 use Rattle.values.specs.Values.{num, wrap}
-use Rattle.operators.specs.Operators.{unary, binary, chosen}
+use Rattle.operators.specs.Operators.{unary, binary}
 use Rattle.syntax.specs.Trees.{Exp}
 use Rattle.syntax.specs.Trees as tree
 use Rattle.names.specs.Uses.{uses}

@@ -1,12 +1,11 @@
 -- A typed expression is no deeper than its types were sought, and its value has its type. Assumes nothing.
-use mathlib.Core.Path.{_≡_, refl, sym, ap, _∙_, subst}
+use mathlib.Core.Path.{_≡_, refl, sym, ap, _∙_}
 use mathlib.Core.Bool.{Bool as Truth, true, false, cond, _&&_}
 use mathlib.Core.List.{List, _++_}
-use Prim.Native.Nat.{ℕ, zero, suc, _+_, _≤_, max}
+use Prim.Native.Nat.{ℕ, zero, suc, _+_, _≤_}
 use native.Mathlib.Omega.{arith}
 use lib.Dec.{eqb}
 use lib.IntN.{ℤ}
-use Rattle.std.specs.shelf.Lists.{All}
 use Rattle.std.proofs.shelf.Tests.{cond-both, and-parts, eqb-true}
 use Rattle.std.specs.declared.option.Option.{Option}
 use Rattle.std.specs.declared.option.Option.the-variants.{Some, None}
@@ -28,10 +27,10 @@ use Rattle.operators.specs.Operators.{truth, unary, binary, chosen}
 use Rattle.syntax.specs.Trees.{Exp}
 use Rattle.syntax.specs.Trees as tree
 use Rattle.syntax.proofs.Complete.{type-back}
-use Rattle.names.specs.Uses.{Use, uses}
-use Rattle.typing.specs.Rules.{same, where-fit, unary-type, binary-type, place, settled, divided}
+use Rattle.names.specs.Uses.{uses}
+use Rattle.typing.specs.Rules.{same, where-fit, unary-type, binary-type, settled, divided}
 use Rattle.syntax.specs.Passing.{then}
-use Rattle.typing.specs.Typing.{fitted, operand, formed, shape}
+use Rattle.typing.specs.Typing.{fitted, operand, shape}
 use Rattle.evaluation.specs.Meaning.{meaning, levels}
 use Rattle.evaluation.specs.Kept.{Of-types, Has-meaning}
 use Rattle.evaluation.proofs.Agreeing.{all-left, all-right}

@@ -1,13 +1,12 @@
 -- A quotient drops the fraction toward zero, and a remainder has the dividend's sign. Assumes nothing.
 use mathlib.Core.Path.{_≡_, refl, sym, ap, _∙_}
-use Prim.Native.Nat.{ℕ, zero, suc, _+_, _*_, _/_, _%_, _<_}
+use Prim.Native.Nat.{ℕ, zero, suc, _+_, _*_, _/_, _%_}
 use native.Mathlib.Omega.{arith}
 use native.Mathlib.Nat.{div-add-mod', mod-le, mod-lt, zero-mul}
-use lib.IntN.{ℤ, pos, negsuc, negℤ, natAbs, _+ℤ_, _*ℤ_}
-use lib.Signed.{quotZ, remZ}
+use lib.IntN.{ℤ, pos, negsuc, negℤ, _+ℤ_, _*ℤ_}
 use Rattle.std.proofs.shelf.Signed.{ints}
 use Rattle.operators.proofs.Wide.{neg-abs}
-use Rattle.operators.specs.Division.{Divided, Divides}
+use Rattle.operators.specs.Division.{Divides}
 
 neg-sum : (x y : ℕ) → negℤ (pos (x + y)) ≡ negℤ (pos x) +ℤ negℤ (pos y)
 neg-sum x y = omega (arith, ints)

@@ -1,5 +1,5 @@
 -- What each operator makes of its operands: stated once over the integers, for every type. Assumes nothing.
-use mathlib.Core.Bool.{Bool as Truth, true, false, not, cond, _&&_, _||_}
+use mathlib.Core.Bool.{Bool as Truth, false, not, cond, _&&_, _||_}
 use lib.Dec.{eqb}
 use lib.IntN.{ℤ, pos, negsuc, negℤ, _+ℤ_, _-ℤ_, _*ℤ_}
 use lib.Signed.{quotZ, remZ, ltZ, leZ}

@@ -1,6 +1,6 @@
 // Worked cases at the ends of the ranges, each with its proved result.
 ghost use mathlib.Core.Path.{_≡_};
-ghost use lib.IntN.{pos, negsuc};
+ghost use lib.IntN.{negsuc};
 ghost use Rattle.operators.specs.Division.{Divides};
 ghost use Rattle.values.specs.declared.value.Value.the-variants as value;
 use crate::operator::Binary;

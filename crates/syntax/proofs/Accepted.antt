@@ -16,7 +16,6 @@ use Rattle.std.specs.declared.result.Result.the-variants.{Ok, Err}
 use Rattle.faults.specs.declared.cause.Cause.the-variants.{Malformed, Limit}
 use Rattle.values.specs.declared.value.Value.{Value}
 use Rattle.values.specs.Types.{code}
-use Rattle.values.specs.Values.{type-of}
 use Rattle.values.specs.Bytes.{encoded}
 use Rattle.syntax.specs.declared.record.Kind.{Kind}
 use Rattle.syntax.specs.declared.record.Kind.the-variants.{Channel, Stream, Rule}
@@ -26,7 +25,7 @@ use Rattle.syntax.specs.Parsing.{parse}
 use Rattle.syntax.specs.Entries.{Entry, kind-of, kind-code, kind-coded, limit, count}
 use Rattle.syntax.specs.Entries as entry
 use Rattle.syntax.specs.Reading.{many, at-most, body, filled, framed, frame, entry-from, entries, read-table}
-use Rattle.syntax.specs.Written.{written, Bounded, Has-type, placed, joined, payload, inner, write-entry, write, Small, each, placed-payload, placed-entry, Written, Accepts-written}
+use Rattle.syntax.specs.Written.{written, Bounded, Has-type, placed, joined, payload, inner, write-entry, write, Small, each, placed-payload, placed-entry, Accepts-written}
 use Rattle.syntax.proofs.Stand.{Stands, split, first, front-long, narrowed}
 use Rattle.syntax.proofs.Complete.{type-is, value-is, complete}
 use Rattle.syntax.proofs.Whole.{count-push, read-kept}

@@ -19,7 +19,7 @@ use Rattle.syntax.specs.Entries.{Entry, kind-of, kind-code, kind-coded, limit,
 use Rattle.syntax.specs.Reading.{many, at-most, body, filled, frame, entry-from}
 use Rattle.syntax.specs.Written.{written, Bounded, Has-type, joined, payload, inner, write-entry, Small}
 use Rattle.syntax.proofs.Stand.{Stands, nothing, byte, join, as-byte, front-long, widened, Good, good-then, good-if, good-weaker, good-named, coded}
-use Rattle.syntax.proofs.Sound.{T-at, V-at, E-at, sound-type, sound-value, sound}
+use Rattle.syntax.proofs.Sound.{T-at, E-at, sound-type, sound-value, sound}
 
 module _ (bs : List ℕ) (small : All (λ b. b < 256) bs) where
   abbrev X-at : {X : Type 0} → (X → List ℕ) → (X → Type 0) → ℕ → X → ℕ → Type 0

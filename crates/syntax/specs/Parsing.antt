@@ -1,7 +1,7 @@
 -- What stands in bytes as an expression, or why nothing does. Assumes nothing.
 use mathlib.Core.List.{List}
 use Prim.Native.Nat.{ℕ, zero, suc}
-use Rattle.std.specs.declared.result.Result.the-variants.{Ok, Err}
+use Rattle.std.specs.declared.result.Result.the-variants.{Ok}
 use Rattle.syntax.specs.declared.tree.Node.{Node}
 use Rattle.syntax.specs.declared.tree.Node.the-variants.{Constant, Channel, Stream, Unary, Cast, Binary, Choose}
 use Rattle.syntax.specs.Answers.{Found, then}

@@ -1,6 +1,5 @@
 // An expression from bytes.
-ghost use mathlib.Core.Path.{_≡_};
-ghost use Prim.Native.Nat.{ℕ, _≤_};
+ghost use Prim.Native.Nat.{_≤_};
 ghost use lib.ListN.{length};
 ghost use Rattle.syntax.specs.Parsing.{parse};
 ghost use Rattle.syntax.specs.Trees.{exp};

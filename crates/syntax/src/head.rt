@@ -1,7 +1,7 @@
 // The first bytes of an expression. The bytes that are passed end where the record ends, so that none beyond are read.
 ghost use mathlib.Core.Path.{_≡_};
-ghost use Prim.Native.Nat.{ℕ, _+_, _≤_, _<_};
-ghost use lib.ListN.{length, getD};
+ghost use Prim.Native.Nat.{_+_, _<_};
+ghost use lib.ListN.{length};
 ghost use Rattle.std.specs.Vec.{made};
 ghost use Rattle.syntax.specs.Heads.{head, after, value-from, type-from};
 use crate::codes::Op;

@@ -1,10 +1,9 @@
 // A table, from bytes.
 ghost use mathlib.Core.Path.{_≡_};
 ghost use mathlib.Core.List.{map, []};
-ghost use Prim.Native.Nat.{ℕ, _+_, _≤_, _<_};
+ghost use Prim.Native.Nat.{_+_, _≤_, _<_};
 ghost use lib.ListN.{length};
 ghost use Rattle.std.specs.Vec.{made};
-ghost use Rattle.std.specs.Of.Vec.{vec-items};
 ghost use Rattle.syntax.specs.Answers.{Gives};
 ghost use Rattle.syntax.specs.Entries.{entry-of};
 ghost use Rattle.syntax.specs.Reading.{frame, entry-from, entries, read-table, Yields, Begun};

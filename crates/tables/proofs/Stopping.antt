@@ -1,5 +1,5 @@
 -- Where the types of a table that was read stop the check. Assumes nothing.
-use mathlib.Core.Path.{_≡_, ap, _∙_, sym}
+use mathlib.Core.Path.{_≡_, ap, _∙_}
 use mathlib.Core.List.{List, [], _∷_}
 use Prim.Native.Nat.{ℕ, _<_}
 use native.Mathlib.Omega.{arith}
@@ -9,7 +9,7 @@ use Rattle.syntax.specs.declared.stop.Stop.{Stop}
 use Rattle.syntax.specs.declared.stop.Stop.the-variants.{Refused, Memory}
 use Rattle.syntax.specs.Entries.{Entry}
 use Rattle.syntax.specs.Reading.{read-table, Begun}
-use Rattle.syntax.specs.Written.{write, Written, Accepts-written}
+use Rattle.syntax.specs.Written.{Written, Accepts-written}
 use Rattle.names.specs.Declaring.{undeclared-in}
 use Rattle.syntax.specs.Passing.{then}
 use Rattle.typing.specs.Judging.{types-in, Typed}

@@ -4,7 +4,6 @@ use mathlib.Core.List.{List, [], _∷_, _++_, map}
 use Prim.Native.Nat.{ℕ, _+_, _<_}
 use lib.ListN.{length, getD, take}
 use Rattle.std.proofs.shelf.Lists.{take-more, map-append}
-use Rattle.values.specs.declared.types.«Type».{«Type» as Ty}
 use Rattle.syntax.specs.declared.record.Record.{Record}
 use Rattle.syntax.specs.Entries.{Entry, entry-of}
 use Rattle.syntax.specs.Entries as entry

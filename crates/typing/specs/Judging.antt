@@ -1,14 +1,13 @@
 -- The first type or divisor of a table that does not fit. Assumes nothing.
 use mathlib.Core.Bool.{Bool as Truth, true, cond}
 use mathlib.Core.Path.{_≡_}
-use mathlib.Core.List.{List, [], _∷_}
+use mathlib.Core.List.{List}
 use Prim.Native.Nat.{_<_}
 use lib.ListN.{length}
 use Rattle.std.specs.declared.option.Option.{Option}
 use Rattle.std.specs.declared.option.Option.the-variants.{Some, None}
 use Rattle.std.specs.declared.result.Result.{Result}
 use Rattle.std.specs.declared.result.Result.the-variants.{Ok, Err}
-use Rattle.faults.specs.declared.cause.Cause.{Cause}
 use Rattle.faults.specs.declared.cause.Cause.the-variants.{Mistyped}
 use Rattle.values.specs.declared.types.«Type».{«Type» as Ty}
 use Rattle.values.specs.declared.types.«Type».the-variants.{Bool}

@@ -1,6 +1,6 @@
 -- The type of an expression, or the first thing in it that does not fit. Assumes nothing.
-use mathlib.Core.Bool.{_&&_, cond}
-use mathlib.Core.List.{List, [], _∷_}
+use mathlib.Core.Bool.{_&&_}
+use mathlib.Core.List.{List}
 use Prim.Native.Nat.{ℕ, zero, suc}
 use lib.ListN.{getD}
 use Rattle.std.specs.declared.option.Option.{Option}

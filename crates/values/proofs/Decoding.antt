@@ -9,7 +9,7 @@ use lib.IntN.{pos}
 use lib.ListN.{length}
 use Rattle.std.specs.shelf.Digits.{number}
 use Rattle.std.proofs.shelf.Ways.{tells}
-use Rattle.std.specs.declared.option.Option.the-variants.{Some, None}
+use Rattle.std.specs.declared.option.Option.the-variants.{Some}
 use Rattle.values.specs.declared.types.«Type».{«Type» as Ty}
 use Rattle.values.specs.declared.types.«Type».the-variants.{Bool, Word8, Word16, Word32, Word64, Int8, Int16, Int32, Int64}
 use Rattle.values.specs.Types.{size, width}

@@ -1,15 +1,14 @@
 -- What wrapping into a type's range means, for every type by one law over the width. Assumes nothing.
 use mathlib.Core.Path.{_≡_, refl, sym, ap, _∙_, subst}
 use mathlib.Core.Bool.{true, false}
-use Prim.Native.Nat.{ℕ, zero, suc, _+_, _-_, _*_, _^_, _≤_, _<_}
+use Prim.Native.Nat.{ℕ, zero, suc, _-_, _*_, _^_, _≤_, _<_}
 use native.Mathlib.Omega.{arith}
 use native.Mathlib.Nat.{mod-eq-of-lt}
 use mir.Syntax.{Width, w8, w16, w32, w64}
-use mir.Val.{toZ, sel, bits, hbits, SFits}
+use mir.Val.{bits, hbits, SFits}
 use lib.Dec.{eqb, lit<}
 use lib.IntN.{ℤ, pos, negsuc, natAbs}
-use lib.Signed.{leZ, _≤ℤ_}
-use Rattle.std.specs.Numbers.{remEuclid}
+use lib.Signed.{_≤ℤ_}
 use Rattle.std.specs.shelf.Signed.{wrapped}
 use Rattle.std.proofs.shelf.Signed.{ints, wrapped-fits}
 use Rattle.std.proofs.shelf.Tests.{cond-both}
@@ -17,8 +16,8 @@ use Rattle.values.specs.declared.types.«Type».{«Type» as Ty}
 use Rattle.values.specs.declared.types.«Type».the-variants as type
 use Rattle.values.specs.declared.value.Value.{Value}
 use Rattle.values.specs.declared.value.Value.the-variants.{Bool, Word8, Word16, Word32, Word64, Int8, Int16, Int32, Int64}
-use Rattle.values.specs.Types.{width, least, greatest, Within, casts}
-use Rattle.values.specs.Values.{type-of, num, Proper, modulo, low, wrap, word, Congruent, Wrapped, Wraps}
+use Rattle.values.specs.Types.{width, Within, casts}
+use Rattle.values.specs.Values.{type-of, num, Proper, modulo, low, wrap, word, Congruent, Wraps}
 use Rattle.values.proofs.Congruence.{rest-below, rest-same, one-rest, chain, narrower, signed-same}
 
 -- all that is used of the nine widths

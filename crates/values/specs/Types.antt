@@ -1,5 +1,5 @@
 -- The types of values: the code, size, width and range of each, and which casts lose nothing. Assumes nothing.
-use mathlib.Core.Bool.{Bool as Truth, true, false, cond, _&&_}
+use mathlib.Core.Bool.{Bool as Truth, cond, _&&_}
 use mathlib.Core.List.{List, [], _∷_}
 use Prim.Native.Nat.{ℕ, _^_, _-_}
 use lib.Dec.{eqb}

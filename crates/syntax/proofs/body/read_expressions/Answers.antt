@@ -6,11 +6,10 @@ use Rattle.std.specs.declared.alloc.Global.{Global}
 use Rattle.std.specs.Of.Vec.{vec-items}
 use Rattle.std.proofs.shelf.Lists.{map-append}
 use Rattle.std.proofs.shelf.Results.{err-from-errBy}
-use Rattle.syntax.specs.Heads.{value-from}
 use Rattle.syntax.specs.Parsing.{parse}
 use Rattle.syntax.specs.Trees.{exp}
 use Rattle.syntax.specs.Reading.{many}
-use Rattle.syntax.proofs.Many.{onto, many-more, many-err, many-end, many-stopped}
+use Rattle.syntax.proofs.Many.{onto, many-more, many-end, many-stopped}
 use Rattle.syntax.proofs.body.read_expressions.Needs as need
 
 pub returns-in-Break-e : need.returns-in-Break-e

@@ -1,15 +1,12 @@
 use borrow.Author.Needs.{needs}
 use mathlib.Core.Path.{_≡_, sym, ap, _∙_}
-use mathlib.Core.List.{[], _∷_, _++_, map}
+use mathlib.Core.List.{[], _∷_, _++_}
 use Prim.Native.Nat.{_+_, _-_}
 use Rattle.std.specs.Of.Vec.{vec-items}
-use Rattle.std.proofs.shelf.Lists.{map-append}
 use Rattle.std.proofs.shelf.Results.{err-from-errBy}
 use Rattle.syntax.specs.Heads.{value-from}
-use Rattle.syntax.specs.Parsing.{parse}
-use Rattle.syntax.specs.Trees.{exp}
 use Rattle.syntax.specs.Reading.{many}
-use Rattle.syntax.proofs.Many.{onto, many-more, many-err, many-end, many-stopped}
+use Rattle.syntax.proofs.Many.{onto, many-more, many-err, many-end}
 use Rattle.syntax.proofs.body.read_values.Needs as need
 
 pub returns-in-Break-value : need.returns-in-Break-value

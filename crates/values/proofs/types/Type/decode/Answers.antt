@@ -1,9 +1,7 @@
-use borrow.Author.Needs.{needs}
 use mathlib.Core.Path.{_≡_, sym, ap, _∙_, subst}
 use mathlib.Core.Logic.{inl, inr}
-use mathlib.Core.Bool.{cond}
 use native.Mathlib.Omega.{arith}
-use Prim.Native.Nat.{_*_, _^_, _<_}
+use Prim.Native.Nat.{_^_, _<_}
 use lib.IntN.{pos}
 use lib.ListN.{length}
 use Rattle.std.specs.declared.option.Option.the-variants.{Some}
