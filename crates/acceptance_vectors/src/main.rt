@@ -1,4 +1,6 @@
 // Checks many tables, one a line of standard input in hexadecimal, and prints what each is.
+#![tactic(auto)]
+
 ghost use Rattle.std.specs.Prelude.{◌≡◌, IfOk, vec_items, string_bytes};
 ghost use Rattle.std.specs.Option.{option_map};
 ghost use Rattle.acceptance_vectors.specs.Telling.{table_of, Told};

@@ -1,4 +1,6 @@
 // Worked cases of walks, leads and rings: small tables, what the check answers of them, and proofs of it.
+#![tactic(auto)]
+
 ghost use Rattle.std.specs.Prelude.{◌≡◌, IfOk};
 ghost use Rattle.cases.specs.Cases.{three_streams, one_stream, TwoStreams, ThreeAhead, FourAhead, OneAhead, NoneAhead, Says, Verdict, AsWorked};
 

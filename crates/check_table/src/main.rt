@@ -1,4 +1,6 @@
 // Reads a table from standard input, and prints what it is or why it is refused.
+#![tactic(auto)]
+
 ghost use Rattle.std.specs.Prelude.{◌≤◌, length, IfOk};
 
 use anyhow::anyhow;

@@ -1,4 +1,6 @@
 // Text in hexadecimal as bytes.
+#![tactic(auto)]
+
 ghost use Rattle.std.specs.Prelude.{◌≡◌, IfOk, vec_items};
 ghost use Rattle.std.specs.Option.{option_map};
 ghost use Rattle.hexadecimal.specs.Hexadecimal.{digit_of, byte_of, bytes_of};

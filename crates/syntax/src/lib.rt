@@ -1,4 +1,6 @@
 // A table of streams and rules: its records and expressions, and reading them from bytes.
+#![tactic(auto)]
+
 mod body;
 mod codes;
 mod expression;

@@ -1,2 +1,4 @@
 // The check of a table, and the line that tells its answer.
+#![tactic(auto)]
+
 pub mod check;

@@ -1,2 +1,4 @@
 // References as the edges of a graph, and the entries by which a walk over them is told.
+#![tactic(auto)]
+
 pub mod edge;
