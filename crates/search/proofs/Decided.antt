@@ -11,7 +11,7 @@ use Rattle.walks.proofs.Rings.{Loop, loop, on_ring, simple_walk, simple_ring, fe
 use Rattle.walks.proofs.Through.{fit_in, through, all_bounded}
 use Rattle.search.specs.declared.arrival.Arrival.{Arrival}
 use Rattle.search.specs.Rows.{nothing, alone, everywhere, layer}
-use Rattle.search.specs.Arrivals.{ring, outside, arrives, Missed, First, Open, Unclosed, Fewest}
+use Rattle.search.specs.Arrivals.{outside, arrives, Missed, First, Open, Unclosed, Fewest}
 use Rattle.search.specs.Listings.{Listed}
 use Rattle.search.proofs.Rows.{clash, reaches_out}
 use Rattle.search.proofs.Layers.{alone_begins, shows}

@@ -1,5 +1,5 @@
 -- Bytes whose number is small enough for a type. Assumes nothing.
-use Rattle.std.proofs.Common.{◌≡◌, ℕ, ◌*◌, ◌^◌, ◌<◌, ◌≤◌, Bool as Truth, false, cond, List, length, pos, Some, refl, ap, ◌∙◌, subst, arith, lit≤}
+use Rattle.std.proofs.Common.{◌≡◌, ℕ, ◌*◌, ◌^◌, ◌<◌, ◌≤◌, List, length, pos, Some, refl, ap, ◌∙◌, subst, arith, lit≤}
 use Rattle.std.specs.Int.Digits.{number_from_digits}
 use Rattle.std.proofs.lemmas.Bool.Decides.{nat_tests}
 use Rattle.values.specs.declared.types.«Type».{«Type» as Ty}
@@ -32,11 +32,9 @@ filled Int16 no_flag = refl
 filled Int32 no_flag = refl
 filled Int64 no_flag = refl
 
--- the same, for a test of the type
-pub fitting : (t : Ty) (flag : Truth) (n l : ℕ) → cond flag (t ≡ Bool) (t ≡ Bool → ⊥) → flag ≡ false → l ≡ size t → n < 2 ^ (8 * l) → n < 2 ^ width t
-fitting t flag n l e f s h =
-    let no_flag : t ≡ Bool → ⊥ = subst (λ b. cond b (t ≡ Bool) (t ≡ Bool → ⊥)) f e in
-    subst (λ w. n < 2 ^ w) (ap (λ k. 8 * k) s ∙ filled t no_flag) h
+-- so a number of as many bytes fits the type
+pub fitting : (t : Ty) (n l : ℕ) → (t ≡ Bool → ⊥) → l ≡ size t → n < 2 ^ (8 * l) → n < 2 ^ width t
+fitting t n l no_flag s h = subst (λ w. n < 2 ^ w) (ap (λ k. 8 * k) s ∙ filled t no_flag) h
 
 pub decoded_some : (t : Ty) (bytes : List ℕ) → length bytes ≡ size t → number_from_digits 256 bytes < 2 ^ width t → decoded t bytes ≡ Some (wrap t (pos (number_from_digits 256 bytes)))
 decoded_some t bytes l h = grind (arith, nat_tests)

@@ -1,5 +1,5 @@
 -- Bytes and the value that they write. Assumes nothing.
-use Rattle.std.proofs.Common.{◌≡◌, ℕ, zero, suc, ◌+◌, ◌-◌, ◌*◌, ◌/◌, ◌%◌, ◌^◌, ◌<◌, Bool as Truth, true, false, cond, ◌&&◌, eqb, ltb, List, [], ◌∷◌, ◌++◌, length, pos, negsuc, nat_abs, Some, None, sym, refl, ap, ◌∙◌, subst, mod-eq_of_lt, pow-suc, arith, lit<, w8, w16, w32, w64, to_z}
+use Rattle.std.proofs.Common.{◌≡◌, ℕ, zero, suc, ◌+◌, ◌-◌, ◌*◌, ◌/◌, ◌%◌, ◌^◌, ◌<◌, Bool as Truth, true, false, ◌&&◌, eqb, ltb, List, [], ◌∷◌, ◌++◌, length, pos, negsuc, nat_abs, Some, None, sym, refl, ap, ◌∙◌, subst, mod-eq_of_lt, pow-suc, arith, lit<, w8, w16, w32, w64, to_z}
 use mir.Syntax.{Width}
 use mir.Val.{sel, bits, hbits}
 use Rattle.std.specs.Int.{int_rem_euclid}
@@ -11,7 +11,6 @@ use Rattle.std.proofs.lemmas.Bool.{cond_both, and_parts, eqb-true, ltb-true}
 use Rattle.values.specs.declared.types.«Type».{«Type» as Ty}
 use Rattle.values.specs.declared.types.«Type».TheVariants as type
 use Rattle.values.specs.declared.value.Value.{Value}
-use Rattle.values.specs.declared.value.Value.TheVariants as value
 use Rattle.values.specs.Types.{size, width}
 use Rattle.values.specs.Values.{type_of, num, Proper, modulo, low, wrap}
 use Rattle.values.specs.Bytes.{big_endian, encoded, decoded, Writes, Decodes}

@@ -1,7 +1,7 @@
 -- What wrapping into a type's range means, for every type by one law over the width. Assumes nothing.
-use Rattle.std.proofs.Common.{◌≡◌, ℕ, zero, suc, ◌-◌, ◌*◌, ◌^◌, ◌<◌, ◌≤◌, true, false, eqb, ℤ, pos, negsuc, nat_abs, ◌≤ℤ◌, sym, refl, ap, ◌∙◌, subst, mod-eq_of_lt, arith, lit<, w8, w16, w32, w64, SFits}
+use Rattle.std.proofs.Common.{◌≡◌, ℕ, zero, suc, ◌-◌, ◌*◌, ◌^◌, ◌<◌, true, false, eqb, ℤ, pos, negsuc, nat_abs, ◌≤ℤ◌, sym, refl, ap, ◌∙◌, subst, mod-eq_of_lt, arith, lit<, w8, w16, w32, w64, SFits}
 use mir.Syntax.{Width}
-use mir.Val.{bits, hbits}
+use mir.Val.{hbits}
 use Rattle.std.specs.Int.{int_wrap}
 use Rattle.std.proofs.lemmas.Int.{ints, int_wrap_fits}
 use Rattle.std.proofs.lemmas.Bool.{cond_both}
@@ -10,7 +10,7 @@ use Rattle.values.specs.declared.types.«Type».TheVariants as type
 use Rattle.values.specs.declared.value.Value.{Value}
 use Rattle.values.specs.declared.value.Value.TheVariants.{Bool, Word8, Word16, Word32, Word64, Int8, Int16, Int32, Int64}
 use Rattle.values.specs.Types.{width, Within, casts}
-use Rattle.values.specs.Values.{type_of, num, Proper, modulo, low, wrap, word, Congruent, Wraps}
+use Rattle.values.specs.Values.{type_of, num, Proper, modulo, low, wrap, Congruent, Wraps}
 use Rattle.values.proofs.Congruence.{rest_below, rest_same, one_rest, chain, narrower, signed_same}
 
 -- all that is used of the nine widths

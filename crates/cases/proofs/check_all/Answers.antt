@@ -9,9 +9,9 @@ use Rattle.cases.proofs.check_all.Goals as goal
 
 pub returns : goal.returns
 returns c = record {
-  two = slots_are two_streams c.in-ok-two.two c.in-ok-two.ensures 4 both_streams.1;
-  three = slots_are (three_streams 3) c.in-ok-three.three (subst (λ (l : List ℕ). Verdict l c.in-ok-three.three) c.three_streams.ensures c.in-ok-three.ensures) 4 three_ahead;
-  four = cause_is (three_streams 4) c.in-ok-four.four (subst (λ (l : List ℕ). Verdict l c.in-ok-four.four) c.three-streams-2.ensures c.in-ok-four.ensures) (ChannelWalk 3) four_ahead;
-  one = cause_is (one_stream 1) c.in-ok-one.one (subst (λ (l : List ℕ). Verdict l c.in-ok-one.one) c.one_stream.ensures c.in-ok-one.ensures) (ClosedWalk 1) one_ahead;
-  none = slots_are (one_stream 0) c.in-ok-none.none (subst (λ (l : List ℕ). Verdict l c.in-ok-none.none) c.one-stream-2.ensures c.in-ok-none.ensures) 2 none_ahead;
+  two = slots_are two_streams c.in_ok-two.two c.in_ok-two.ensures 4 both_streams.1;
+  three = slots_are (three_streams 3) c.in_ok-three.three (subst (λ (l : List ℕ). Verdict l c.in_ok-three.three) c.three_streams.ensures c.in_ok-three.ensures) 4 three_ahead;
+  four = cause_is (three_streams 4) c.in_ok-four.four (subst (λ (l : List ℕ). Verdict l c.in_ok-four.four) c.three_streams-2.ensures c.in_ok-four.ensures) (ChannelWalk 3) four_ahead;
+  one = cause_is (one_stream 1) c.in_ok-one.one (subst (λ (l : List ℕ). Verdict l c.in_ok-one.one) c.one_stream.ensures c.in_ok-one.ensures) (ClosedWalk 1) one_ahead;
+  none = slots_are (one_stream 0) c.in_ok-none.none (subst (λ (l : List ℕ). Verdict l c.in_ok-none.none) c.one_stream-2.ensures c.in_ok-none.ensures) 2 none_ahead;
 }

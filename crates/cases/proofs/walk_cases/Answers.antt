@@ -5,4 +5,4 @@ use Rattle.cases.proofs.Three.{three_ahead, four_ahead}
 use Rattle.cases.proofs.walk_cases.Goals as goal
 
 pub returns : goal.returns
-returns c = record { answers = c.check-all.ensures; two = both_streams; three = three_ahead; four = four_ahead; one = one_ahead; none = none_ahead }
+returns c = record { answers = c.check_all.ensures; two = both_streams; three = three_ahead; four = four_ahead; one = one_ahead; none = none_ahead }

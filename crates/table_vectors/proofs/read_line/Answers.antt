@@ -9,5 +9,5 @@ use Rattle.table_vectors.proofs.read_line.Goals as goal
 pub returns : goal.returns
 returns c =
     let f : bytes_eq c.args.text.now (codes "-") ≡ false = search (rules, bytes_eq-Decides) in
-    let e = ap bytes_of c.as-bytes.ensures.value ∙ sym (cond-false _ _ _ f) in
-    IfOk-weaker c.parse-hex.result _ _ (λ _ p. p ∙ e) c.parse-hex.ensures
+    let e = ap bytes_of c.as_bytes.ensures.value ∙ sym (cond-false _ _ _ f) in
+    IfOk-weaker c.parse_hex.result _ _ (λ _ p. p ∙ e) c.parse_hex.ensures

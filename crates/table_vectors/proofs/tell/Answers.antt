@@ -7,5 +7,5 @@ use Rattle.table_vectors.proofs.tell.Goals as goal
 
 pub returns-in-None : goal.returns-in-None
 returns-in-None c =
-    let e = ap (option_map (vec_items {Z = Global})) (sym c.in-None.is) ∙ c.in-ok-bytes.ensures in
-    IfOk-weaker c.from-str.result _ _ (λ _ p. p ∙ ap told e) c.from-str.ensures.ok
+    let e = ap (option_map (vec_items {Z = Global})) (sym c.in-None.is) ∙ c.in_ok-bytes.ensures in
+    IfOk-weaker c.from_str.result _ _ (λ _ p. p ∙ ap told e) c.from_str.ensures.ok

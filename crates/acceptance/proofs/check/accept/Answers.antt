@@ -8,39 +8,39 @@ use Rattle.acceptance.specs.Accepting.{checked}
 use Rattle.acceptance.proofs.Passing.{written_law, starved, plan_stopped, plan_accepts}
 use Rattle.acceptance.proofs.check.accept.Goals as goal
 
-pub returns-in-err-plan : goal.returns-in-err-plan
-returns-in-err-plan c =
-    let p = err_from_is_err_and c.from-residual-in-err-plan.result c.from-residual-in-err-plan.ensures.1 in
+pub returns-in_err-plan : goal.returns-in_err-plan
+returns-in_err-plan c =
+    let p = err_from_is_err_and c.from_residual-in_err-plan.result c.from_residual-in_err-plan.ensures.1 in
     let bytes = c.args.bytes.now in
-    let stopped = subst (λ (l : List Record). Scheduled (map entry_of l) c.args.sheet.now c.make-plan.new.sheet (Err c.in-err-plan.field-0.0)) c.deref.ensures.value c.in-err-plan.ensures in
+    let stopped = subst (λ (l : List Record). Scheduled (map entry_of l) c.args.sheet.now c.make_plan.new.sheet (Err c.in_err-plan.field-0.0)) c.deref.ensures.value c.in_err-plan.ensures in
     rw (p.1, p.2)
-    (plan_stopped bytes (entries_of c.in-ok-records.records) c.args.sheet.now c.make-plan.new.sheet c.in-err-plan.field-0.0 (written_law bytes c.type-inv.bytes)
-    c.in-ok-records.ensures.0 c.if-sheet-lt-LEAST-SHEET.false stopped)
+    (plan_stopped bytes (entries_of c.in_ok-records.records) c.args.sheet.now c.make_plan.new.sheet c.in_err-plan.field-0.0 (written_law bytes c.type_inv.bytes)
+    c.in_ok-records.ensures.0 c.if-sheet-lt-LEAST_SHEET.false stopped)
 
-pub returns-in-err-bytes : goal.returns-in-err-bytes
-returns-in-err-bytes c =
-    let p = err_from_is_err_and c.from-residual-in-err-bytes.result c.from-residual-in-err-bytes.ensures.1 in
+pub returns-in_err-bytes : goal.returns-in_err-bytes
+returns-in_err-bytes c =
+    let p = err_from_is_err_and c.from_residual-in_err-bytes.result c.from_residual-in_err-bytes.ensures.1 in
     let bytes = c.args.bytes.now in
     rw (p.1, p.2)
-    (c.in-ok-plan.ensures.0, starved bytes (entries_of c.in-ok-records.records) c.args.sheet.now (written_law bytes c.type-inv.bytes) c.in-ok-records.ensures.0 c.if-sheet-lt-LEAST-SHEET.false)
+    (c.in_ok-plan.ensures.0, starved bytes (entries_of c.in_ok-records.records) c.args.sheet.now (written_law bytes c.type_inv.bytes) c.in_ok-records.ensures.0 c.if-sheet-lt-LEAST_SHEET.false)
 
 pub invariant-of-result : goal.invariant-of-result
 invariant-of-result c =
-    let same : vec_items c.in-ok-bytes.bytes ≡ c.args.bytes.now = search rules in (
+    let same : vec_items c.in_ok-bytes.bytes ≡ c.args.bytes.now = search rules in (
       ∣ record {
-        order = ap checked same ∙ c.in-ok-records.ensures.0;
-        planned = subst (λ (l : List Record). Planned (map entry_of l) c.in-ok-plan.plan) c.deref.ensures.value c.in-ok-plan.ensures.1;
-        small = c.in-ok-plan.ensures.2;
+        order = ap checked same ∙ c.in_ok-records.ensures.0;
+        planned = subst (λ (l : List Record). Planned (map entry_of l) c.in_ok-plan.plan) c.deref.ensures.value c.in_ok-plan.ensures.1;
+        small = c.in_ok-plan.ensures.2;
       } ∣₁,
       tt,
     )
 
 pub returns : goal.returns
 returns c =
-    let same : vec_items c.in-ok-bytes.bytes ≡ c.args.bytes.now = search rules in
-    let planned = subst (λ (l : List Record). Planned (map entry_of l) c.in-ok-plan.plan) c.deref.ensures.value c.in-ok-plan.ensures.1 in (
-      c.if-sheet-lt-LEAST-SHEET.false,
-      c.in-ok-plan.ensures.0,
-      plan_accepts c.args.bytes.now (entries_of c.in-ok-records.records) c.in-ok-plan.plan c.in-ok-records.ensures.0 planned c.in-ok-plan.ensures.2,
-      record { bytes_are = same; records_are = c.in-ok-records.ensures.0; counts_are = refl },
+    let same : vec_items c.in_ok-bytes.bytes ≡ c.args.bytes.now = search rules in
+    let planned = subst (λ (l : List Record). Planned (map entry_of l) c.in_ok-plan.plan) c.deref.ensures.value c.in_ok-plan.ensures.1 in (
+      c.if-sheet-lt-LEAST_SHEET.false,
+      c.in_ok-plan.ensures.0,
+      plan_accepts c.args.bytes.now (entries_of c.in_ok-records.records) c.in_ok-plan.plan c.in_ok-records.ensures.0 planned c.in_ok-plan.ensures.2,
+      record { bytes_are = same; records_are = c.in_ok-records.ensures.0; counts_are = refl },
     )

@@ -13,8 +13,8 @@ loop-i-preserved c =
     let blank : SheetEntry = record { reader = 0; read = 0; drop = 0 } in
     let start = string_bytes c.args.text in
     let inside : i < length sheet = omega arith in
-    let line : c.deref.result.now ≡ reference_line (get_or sheet i blank) = c.deref.ensures ∙ c.in-ok-line.ensures.ok in
-    c.in-ok-push-str.ensures.bytes
+    let line : c.deref.result.now ≡ reference_line (get_or sheet i blank) = c.deref.ensures ∙ c.in_ok-line.ensures.ok in
+    c.in_ok-push_str.ensures.bytes
     ∙ (λ j. c.loop-i.invariant j ++ line j)
     ∙ flat_map_more reference_line start _ (get_or sheet i blank)
     ∙ ap (λ (l : List SheetEntry). start ++ flat_map reference_line l) (sym (take_more sheet i blank inside))

@@ -9,15 +9,15 @@ use Rattle.layout.specs.Sizes.{span, sizes}
 use Rattle.layout.proofs.rings.ring_lengths.Goals as goal
 
 pub widen-requires : goal.widen-requires
-widen-requires c = record { bounded = All-get_or Bounded c.args.edges.now c.loop-edge.edge_index no_edge c.loop-edge-test.true c.requires.bounded; low = c.requires.low }
+widen-requires c = record { bounded = All-get_or Bounded c.args.edges.now c.loop-edge.edge-index no_edge c.loop-edge-test.true c.requires.bounded; low = c.requires.low }
 
 pub loop-edge-preserved : goal.loop-edge-preserved
 loop-edge-preserved c =
     c.widen.ensures ∙
-    ap (λ (x : List ℕ). topped (span c.args.leads.now) x (get_or c.args.edges.now c.loop-edge.edge_index no_edge)) c.loop-edge.invariant ∙
-    sym (fold_more (topped (span c.args.leads.now)) (replicate 64 1) c.args.edges.now c.loop-edge.edge_index no_edge c.loop-edge-test.true)
+    ap (λ (x : List ℕ). topped (span c.args.leads.now) x (get_or c.args.edges.now c.loop-edge.edge-index no_edge)) c.loop-edge.invariant ∙
+    sym (fold_more (topped (span c.args.leads.now)) (replicate 64 1) c.args.edges.now c.loop-edge.edge-index no_edge c.loop-edge-test.true)
 
 pub returns : goal.returns
 unfolding sizes
 returns c =
-    c.loop-edge.invariant ∙ ap (fold (topped (span c.args.leads.now)) (replicate 64 1)) (take_all c.loop-edge.edge_index c.args.edges.now c.loop-edge-test.false)
+    c.loop-edge.invariant ∙ ap (fold (topped (span c.args.leads.now)) (replicate 64 1)) (take_all c.loop-edge.edge-index c.args.edges.now c.loop-edge-test.false)

@@ -4,8 +4,8 @@ use Rattle.std.specs.Int.{int_wrap}
 use Rattle.operators.proofs.Wide.{wrap_wrapped}
 use Rattle.operators.proofs.arithmetic.multiply.Goals as goal
 
-pub returns-in-default : goal.returns-in-default
-returns-in-default c = search (rules, wraps, wrap_wrapped)
+pub returns-in_default : goal.returns-in_default
+returns-in_default c = search (rules, wraps, wrap_wrapped)
 
 pub returns-in-Int8-Int8 : goal.returns-in-Int8-Int8
 unfolding int_wrap

@@ -11,4 +11,4 @@ returns c =
     let b = gathered uses (map exp c.deref.result.now) in
     let g = c.deref.ensures.value in
     let whole : uses (exp rule.guard) ++ gathered uses (map exp (vec_items rule.arguments)) ≡ a ++ b = cc in
-    both c.args.reader (vec_items c.args.found.now) (vec_items c.add-expression.new.found) (vec_items c.add-expressions.new.found) a b _ c.add-expressions.result whole c.in-ok-add-expression.ensures c.add-expressions.ensures
+    both c.args.reader (vec_items c.args.found.now) (vec_items c.add_expression.new.found) (vec_items c.add_expressions.new.found) a b _ c.add_expressions.result whole c.in_ok-add_expression.ensures c.add_expressions.ensures

@@ -4,13 +4,13 @@ use Rattle.std.proofs.lemmas.List.{map_more, take_all}
 use Rattle.schedule.specs.Edges.{Near, edge_by}
 use Rattle.schedule.proofs.edges.make_edges.Goals as goal
 
-pub make-edge-requires : goal.make-edge-requires
-make-edge-requires c = All-get_or (Near c.args.nodes.now.numbering) c.args.references.now c.loop-r.r-index _ c.loop-r-test.true c.requires
+pub make_edge-requires : goal.make_edge-requires
+make_edge-requires c = All-get_or (Near c.args.nodes.now.numbering) c.args.references.now c.loop-r.r-index _ c.loop-r-test.true c.requires
 
 pub loop-r-preserved : goal.loop-r-preserved
 loop-r-preserved c =
-    c.in-ok-push.ensures.items
-    ∙ (λ i. c.loop-r.invariant i ++ (c.make-edge.ensures i ∷ []))
+    c.in_ok-push.ensures.items
+    ∙ (λ i. c.loop-r.invariant i ++ (c.make_edge.ensures i ∷ []))
     ∙ sym (map_more (edge_by c.args.nodes.now) c.args.references.now c.loop-r.r-index _ c.loop-r-test.true)
 
 pub returns : goal.returns

@@ -21,5 +21,5 @@ returns-in-None c = ap (λ o. opening_count (record_at (map entry_of c.args.reco
 pub returns-in-Some : goal.returns-in-Some
 returns-in-Some c =
     let e = length-map c.args.records.now entry_of in
-    c.openings-of.ensures ∙
+    c.openings_of.ensures ∙
     openings_found c.args.records.now c.args.id c.in-Some.i c.index-records-i.result c.in-Some.ensures.value (omega (arith, c.in-Some.ensures.law.inside)) c.index-records-i.is

@@ -9,8 +9,8 @@ use Rattle.search.proofs.Searches.{first_reached}
 use Rattle.search.proofs.Decided.{missed_settled, first_told}
 use Rattle.search.proofs.ahead.find_channel_walk.Goals as goal
 
-pub first-arrival-requires : goal.first-arrival-requires
-first-arrival-requires c = record {
+pub first_arrival-requires : goal.first_arrival-requires
+first_arrival-requires c = record {
   bounded = all_bounded c.args.channels c.args.streams c.args.edges.now c.requires.fits;
   low = low_everywhere;
   few = omega (arith, c.requires.fits.few_streams);
@@ -18,19 +18,19 @@ first-arrival-requires c = record {
   light = omega (arith, ap (λ (t : Target). t.over) c.channels.ensures);
 }
 
-pub returns-in-err-found : goal.returns-in-err-found
-returns-in-err-found c =
-    rw c.from-residual.ensures (
+pub returns-in_err-found : goal.returns-in_err-found
+returns-in_err-found c =
+    rw c.from_residual.ensures (
       missed_settled c.args.channels c.args.streams c.args.edges.now c.requires.fits c.requires.falls
-          (subst (λ (t : Target). Missed c.args.edges.now everywhere t (c.args.streams + 1)) c.channels.ensures c.in-err-found.ensures),
+          (subst (λ (t : Target). Missed c.args.edges.now everywhere t (c.args.streams + 1)) c.channels.ensures c.in_err-found.ensures),
       search rules,
     )
 
-pub list-walk-requires : goal.list-walk-requires
-list-walk-requires c =
-    let f : Arrival = c.in-ok-found.found in
+pub list_walk-requires : goal.list_walk-requires
+list_walk-requires c =
+    let f : Arrival = c.in_ok-found.found in
     let first : First c.args.edges.now everywhere (outside c.args.channels) (c.args.streams + 1) f =
-    subst (λ (t : Target). First c.args.edges.now everywhere t (c.args.streams + 1) f) c.channels.ensures c.in-ok-found.ensures in
+    subst (λ (t : Target). First c.args.edges.now everywhere t (c.args.streams + 1) f) c.channels.ensures c.in_ok-found.ensures in
     record {
       bounded = all_bounded c.args.channels c.args.streams c.args.edges.now c.requires.fits;
       low = low_everywhere;
@@ -41,7 +41,7 @@ list-walk-requires c =
     }
 
 pub returns : goal.returns
-returns c = first_told c.args.channels c.args.streams c.args.edges.now c.requires.fits c.requires.falls c.in-ok-found.found (c.args.streams + 1)
-    c.args.sheet.now c.list-walk.new.sheet
-    (subst (λ (t : Target). First c.args.edges.now everywhere t (c.args.streams + 1) c.in-ok-found.found) c.channels.ensures c.in-ok-found.ensures)
-    c.list-walk.ensures
+returns c = first_told c.args.channels c.args.streams c.args.edges.now c.requires.fits c.requires.falls c.in_ok-found.found (c.args.streams + 1)
+    c.args.sheet.now c.list_walk.new.sheet
+    (subst (λ (t : Target). First c.args.edges.now everywhere t (c.args.streams + 1) c.in_ok-found.found) c.channels.ensures c.in_ok-found.ensures)
+    c.list_walk.ensures

@@ -25,4 +25,4 @@ pub loop-k-preserved : goal.loop-k-preserved
 loop-k-preserved c =
     let is : c.step-row.result ≡ layer c.args.edges.now c.args.start (c.loop-k.k + 1) =
     row_more c.args.edges.now c.args.start c.loop-k.k c.loop-k.row c.step-row.result c.loop-k.invariant.0 c.step-row.ensures in
-    (is, missed_more c.args.edges.now c.args.start c.args.target c.loop-k.k c.loop-k.invariant.1 c.step-row.result is c.in-default.ensures)
+    (is, missed_more c.args.edges.now c.args.start c.args.target c.loop-k.k c.loop-k.invariant.1 c.step-row.result is c.in_default.ensures)

@@ -10,32 +10,32 @@ use Rattle.search.proofs.Searches.{first_reached}
 use Rattle.search.proofs.Decided.{none_falls, fewest_told}
 use Rattle.search.proofs.closed.find_closed_walk.Goals as goal
 
-pub least-closed-requires : goal.least-closed-requires
-least-closed-requires c = record {
+pub least_closed-requires : goal.least_closed-requires
+least_closed-requires c = record {
   bounded = all_bounded c.args.channels c.args.streams c.args.edges.now c.requires.fits;
   few = (c.requires.fits.few_channels, c.requires.fits.few_streams);
 }
 
-pub returns-in-err-found : goal.returns-in-err-found
-returns-in-err-found c =
-    rw c.from-residual.ensures (none_falls c.args.channels c.args.streams c.args.edges.now c.requires.fits c.in-err-found.ensures, search rules)
+pub returns-in_err-found : goal.returns-in_err-found
+returns-in_err-found c =
+    rw c.from_residual.ensures (none_falls c.args.channels c.args.streams c.args.edges.now c.requires.fits c.in_err-found.ensures, search rules)
 
-pub list-walk-requires : goal.list-walk-requires
-list-walk-requires c =
-    let f : Arrival = c.in-ok-found.found in
-    let few : Fewest c.args.edges.now c.args.channels c.args.streams f = c.in-ok-found.ensures in
+pub list_walk-requires : goal.list_walk-requires
+list_walk-requires c =
+    let f : Arrival = c.in_ok-found.found in
+    let few : Fewest c.args.edges.now c.args.channels c.args.streams f = c.in_ok-found.ensures in
     record {
       bounded = all_bounded c.args.channels c.args.streams c.args.edges.now c.requires.fits;
-      low = subst (All (Low 0)) (sym c.start-at.ensures) (low_alone f.node);
+      low = subst (All (Low 0)) (sym c.start_at.ensures) (low_alone f.node);
       few = omega (arith, few.first.within, c.requires.fits.few_streams);
       space = omega (arith, few.first.within, c.requires.fits.few_streams, c.requires.space);
       node = omega (arith, few.below, c.requires.fits.few_channels, c.requires.fits.few_streams);
-      reached = subst (λ (x : List (Option ℕ)). reaches (get_or (layer c.args.edges.now x f.length) f.node None) 0 ≡ true) (sym c.start-at.ensures)
+      reached = subst (λ (x : List (Option ℕ)). reaches (get_or (layer c.args.edges.now x f.length) f.node None) 0 ≡ true) (sym c.start_at.ensures)
           (first_reached c.args.edges.now (alone f.node) (ring f.node) c.args.streams f few.first);
     }
 
 pub returns : goal.returns
-returns c = fewest_told c.args.channels c.args.streams c.args.edges.now c.requires.fits c.in-ok-found.found
-    c.args.sheet.now c.list-walk.new.sheet c.in-ok-found.ensures
-    (subst (λ (x : List (Option ℕ)). Listed c.args.edges.now x c.in-ok-found.found c.args.sheet.now c.list-walk.new.sheet)
-    c.start-at.ensures c.list-walk.ensures)
+returns c = fewest_told c.args.channels c.args.streams c.args.edges.now c.requires.fits c.in_ok-found.found
+    c.args.sheet.now c.list_walk.new.sheet c.in_ok-found.ensures
+    (subst (λ (x : List (Option ℕ)). Listed c.args.edges.now x c.in_ok-found.found c.args.sheet.now c.list_walk.new.sheet)
+    c.start_at.ensures c.list_walk.ensures)

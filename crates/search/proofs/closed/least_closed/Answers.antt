@@ -5,31 +5,31 @@ use Rattle.search.specs.Rows.{Low}
 use Rattle.search.specs.Arrivals.{Missed, First}
 use Rattle.search.proofs.Layers.{low_alone}
 use Rattle.search.proofs.Searches.{at_start, kept_same, kept_open, kept_first, kept_all}
-use Rattle.search.proofs.closed.least_closed.Goals.{in-Some, in-default}
+use Rattle.search.proofs.closed.least_closed.Goals.{in-Some, in_default}
 use Rattle.search.proofs.closed.least_closed.Goals as goal
 
-pub first-arrival-requires : goal.first-arrival-requires
-first-arrival-requires c = record {
+pub first_arrival-requires : goal.first_arrival-requires
+first_arrival-requires c = record {
   bounded = c.requires.bounded;
-  low = subst (All (Low 0)) (sym c.start-at.ensures) (low_alone c.loop-node.node);
+  low = subst (All (Low 0)) (sym c.start_at.ensures) (low_alone c.loop-node.node);
   few = omega (arith, c.min-most.ensures, c.loop-node.invariant.within);
   nodes = omega (arith, ap (λ (t : Target). t.end) c.node.ensures);
   light = omega (arith, ap (λ (t : Target). t.over) c.node.ensures);
 }
 
 pub loop-node-preserved : goal.loop-node-preserved
-loop-node-preserved c = elim c.match-first-arrival.branch [
+loop-node-preserved c = elim c.match-first_arrival.branch [
   | in-Some w ↦
       kept_same c.args.edges.now c.args.channels c.args.streams _ (Some w.in-Some.arrival) _ (w.in-Some.arrival.length - 1) _ w.best-is w.limit-is
       (kept_first c.args.edges.now c.args.channels c.args.streams c.loop-node.node c.loop-node.best c.loop-node.limit w.in-Some.arrival
       (omega arith) (omega arith) c.loop-node.invariant
-      (at_start (λ s t m. First c.args.edges.now s t m w.in-Some.arrival) _ _ _ c.loop-node.node _ c.start-at.ensures c.node.ensures c.min-most.ensures
+      (at_start (λ s t m. First c.args.edges.now s t m w.in-Some.arrival) _ _ _ c.loop-node.node _ c.start_at.ensures c.node.ensures c.min-most.ensures
       w.in-Some.ensures))
-  | in-default w ↦
+  | in_default w ↦
       kept_same c.args.edges.now c.args.channels c.args.streams _ c.loop-node.best _ c.loop-node.limit _ w.best-is w.limit-is
       (kept_open c.args.edges.now c.args.channels c.args.streams c.loop-node.node c.loop-node.best c.loop-node.limit c.loop-node.invariant
-      (at_start (Missed c.args.edges.now) _ _ _ c.loop-node.node _ c.start-at.ensures c.node.ensures c.min-most.ensures
-      w.in-default.ensures))
+      (at_start (Missed c.args.edges.now) _ _ _ c.loop-node.node _ c.start_at.ensures c.node.ensures c.min-most.ensures
+      w.in_default.ensures))
 ]
 
 pub returns : goal.returns

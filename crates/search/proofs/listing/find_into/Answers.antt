@@ -3,5 +3,5 @@ use Rattle.std.proofs.ByRecursion.{All-get_or}
 use Rattle.walks.specs.Edges.{Bounded, no_edge}
 use Rattle.search.proofs.listing.find_into.Goals as goal
 
-pub leads-into-requires : goal.leads-into-requires
-leads-into-requires c = record { bounded = All-get_or Bounded c.args.edges.now c.loop-i.i no_edge (omega arith) c.requires.bounded; low = c.requires.low }
+pub leads_into-requires : goal.leads_into-requires
+leads_into-requires c = record { bounded = All-get_or Bounded c.args.edges.now c.loop-i.i no_edge (omega arith) c.requires.bounded; low = c.requires.low }

@@ -1,4 +1,4 @@
 use Rattle.syntax.proofs.expression.+read_expression.Given as goal
 
-abbrev pub decreases-read-expression : goal.decreases-read-expression
-decreases-read-expression l = l.depth
+abbrev pub decreases-read_expression : goal.decreases-read_expression
+decreases-read_expression l = l.depth

@@ -13,21 +13,21 @@ use Rattle.syntax.proofs.table.read_table.Goals.{then-is-empty-via-then-is-empty
 law : (bs : List ℕ) → ((i : ℕ) → Fits w8 (get_or bs i 0)) → AcceptsWritten bs
 law bs typed = accepts_written bs (All-from_get_or (λ b. b < 256) bs 0 (λ i _. (typed i).fits))
 
-pub returns-then-is-empty : goal.returns-then-is-empty
+pub returns-then-is_empty : goal.returns-then-is_empty
 unfolding read_table
-returns-then-is-empty c =
+returns-then-is_empty c =
     record {
       answer =
-          elim c.then-is-empty.branch [
+          elim c.then-is_empty.branch [
             | then-is-empty-via-then-is-empty w ↦ grind (arith, nat_tests, get_or_past c.args.bytes.now 0 0)
-            | then-is-empty-via-else-is-empty+then-bytes-ne-VERSION w ↦ grind (arith, nat_tests)
+            | then-is_empty-via-else-is_empty+then-bytes-ne-VERSION w ↦ grind (arith, nat_tests)
           ];
-      law = law c.args.bytes.now c.type-inv.bytes;
+      law = law c.args.bytes.now c.type_inv.bytes;
     }
 
-pub returns-then-bytes-gt-MOST-BYTES : goal.returns-then-bytes-gt-MOST-BYTES
+pub returns-then-bytes-gt-MOST_BYTES : goal.returns-then-bytes-gt-MOST_BYTES
 unfolding read_table
-returns-then-bytes-gt-MOST-BYTES c = record { answer = grind (arith, nat_tests); law = law c.args.bytes.now c.type-inv.bytes }
+returns-then-bytes-gt-MOST_BYTES c = record { answer = grind (arith, nat_tests); law = law c.args.bytes.now c.type_inv.bytes }
 
 pub returns : goal.returns
-returns c = record { answer = table_yields c.args.bytes.now c.if-bytes-ne-VERSION.false c.if-bytes-gt-MOST-BYTES.false c.read-records.result c.read-records.ensures; law = law c.args.bytes.now c.type-inv.bytes }
+returns c = record { answer = table_yields c.args.bytes.now c.if-bytes-ne-VERSION.false c.if-bytes-gt-MOST_BYTES.false c.read_records.result c.read_records.ensures; law = law c.args.bytes.now c.type_inv.bytes }

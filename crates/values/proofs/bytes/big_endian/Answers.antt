@@ -5,11 +5,11 @@ use Rattle.std.proofs.lemmas.Int.Digits.{number_more}
 use Rattle.values.proofs.Places.{grown, room}
 use Rattle.values.proofs.bytes.big_endian.Goals as goal
 
-pub overflow-mul-sum : goal.overflow-mul-sum
-overflow-mul-sum c = let h = room c.loop-b.sum c.loop-b.b-index 7 c.loop-b.invariant.1 (omega arith) in record { fits = omega arith }
+pub overflow_mul-sum : goal.overflow_mul-sum
+overflow_mul-sum c = let h = room c.loop-b.sum c.loop-b.b-index 7 c.loop-b.invariant.1 (omega arith) in record { fits = omega arith }
 
-pub overflow-add-sum : goal.overflow-add-sum
-overflow-add-sum c = let h = room c.loop-b.sum c.loop-b.b-index 7 c.loop-b.invariant.1 (omega arith) in
+pub overflow_add-sum : goal.overflow_add-sum
+overflow_add-sum c = let h = room c.loop-b.sum c.loop-b.b-index 7 c.loop-b.invariant.1 (omega arith) in
     let b : get_or c.args.bytes.now c.loop-b.b-index 0 < 256 = search rules in record { fits = omega arith }
 
 pub loop-b-preserved : goal.loop-b-preserved

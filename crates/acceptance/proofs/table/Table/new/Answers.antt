@@ -4,11 +4,11 @@ use Rattle.acceptance.proofs.Beginning.{first_order, first_accepted}
 use Rattle.acceptance.proofs.table.Table.new.Goals as goal
 
 pub invariant-of-result : goal.invariant-of-result
-invariant-of-result c = (∣ first_accepted _ _ _ c.in-ok-bytes.ensures.items (ap (map entry_of) c.new-records.ensures.items) refl ∣₁, tt)
+invariant-of-result c = (∣ first_accepted _ _ _ c.in_ok-bytes.ensures.items (ap (map entry_of) c.new-records.ensures.items) refl ∣₁, tt)
 
 pub returns : goal.returns
 returns c = record {
-  bytes_are = c.in-ok-bytes.ensures.items;
+  bytes_are = c.in_ok-bytes.ensures.items;
   records_are = first_order ∙ ap (λ l. Ok (map entry_of l)) (sym c.new-records.ensures.items);
   counts_are = refl;
 }

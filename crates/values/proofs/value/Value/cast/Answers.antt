@@ -6,6 +6,6 @@ use Rattle.values.proofs.value.Value.cast.Goals as goal
 pub returns : goal.returns
 returns c =
     let v = c.args.self in
-    let is : c.from-word.result ≡ wrap c.args.to (num v) = search (rules, wrap_word) in
+    let is : c.from_word.result ≡ wrap c.args.to (num v) = search (rules, wrap_word) in
     let proper : Proper v = subst Proper c.word.ensures.back (wraps (type_of v) (pos c.word.result)).proper in
     record { value = is; kept = λ e. ap num is ∙ cast_keeps (type_of v) c.args.to (num v) proper e; wraps = wraps }
