@@ -1,5 +1,5 @@
 -- A quotient drops the fraction toward zero, and a remainder has the dividend's sign. Assumes nothing.
-use Rattle.std.proofs.Common.{◌≡◌, ℕ, zero, suc, ◌+◌, ◌*◌, ◌/◌, ◌%◌, ℤ, pos, negsuc, ◌+ℤ◌, ◌*ℤ◌, neg_ℤ, sym, refl, ap, ◌∙◌, mod-lt, div-add-mod', zero-mul, arith}
+use Rattle.std.proofs.Common.{◌≡◌, ℕ, zero, suc, ◌+◌, ◌*◌, ◌/◌, ◌%◌, pos, negsuc, ◌+ℤ◌, ◌*ℤ◌, neg_ℤ, sym, refl, ap, ◌∙◌, mod-lt, div-add-mod', zero-mul, arith}
 use native.Mathlib.Nat.{mod-le}
 use Rattle.std.proofs.lemmas.Int.{ints}
 use Rattle.operators.proofs.Wide.{neg_abs}

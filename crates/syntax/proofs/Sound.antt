@@ -15,7 +15,7 @@ use Rattle.syntax.specs.declared.tree.Node.{Node}
 use Rattle.syntax.specs.declared.tree.Node.TheVariants as node
 use Rattle.syntax.specs.Codes.{op_code, unary_code, binary_code, ops, op_coded}
 use Rattle.syntax.specs.Trees.{Exp}
-use Rattle.syntax.specs.Answers.{Found, then}
+use Rattle.syntax.specs.Answers.{Found}
 use Rattle.syntax.specs.Heads.{head, after, at_level, type_from, value_from}
 use Rattle.syntax.specs.Parsing.{grown, parse}
 use Rattle.syntax.specs.Written.{written, Bounded, HasType}

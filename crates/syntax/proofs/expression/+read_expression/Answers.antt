@@ -6,26 +6,26 @@ use Rattle.syntax.proofs.expression.+read_expression.Goals as goal
 pub returns-in_err-node : goal.returns-in_err-node
 returns-in_err-node t c = rw (stops c.args.bytes.now c.args.at c.args.depth c.in_err-node.ensures.value) (grind (arith, nat_tests))
 
-pub returns-in_err-e : goal.returns-in_err-e
-returns-in_err-e t c = rw (grows c.args.bytes.now c.args.at c.args.depth c.in_ok-node.ensures.value c.in-Unary.is) (grind (arith, nat_tests))
+pub returns-in_err-e-in-Unary : goal.returns-in_err-e-in-Unary
+returns-in_err-e-in-Unary t c = rw (grows c.args.bytes.now c.args.at c.args.depth c.in_ok-node.ensures.value c.in-Unary.is) (grind (arith, nat_tests))
 
-pub returns-in_err-e-2 : goal.returns-in_err-e-2
-returns-in_err-e-2 t c = rw (grows c.args.bytes.now c.args.at c.args.depth c.in_ok-node.ensures.value c.in-Cast.is) (grind (arith, nat_tests))
+pub returns-in_err-e-in-Cast : goal.returns-in_err-e-in-Cast
+returns-in_err-e-in-Cast t c = rw (grows c.args.bytes.now c.args.at c.args.depth c.in_ok-node.ensures.value c.in-Cast.is) (grind (arith, nat_tests))
 
-pub returns-in_err-a : goal.returns-in_err-a
-returns-in_err-a t c = rw (grows c.args.bytes.now c.args.at c.args.depth c.in_ok-node.ensures.value c.in-Binary.is) (grind (arith, nat_tests))
+pub returns-in_err-a-in-Binary : goal.returns-in_err-a-in-Binary
+returns-in_err-a-in-Binary t c = rw (grows c.args.bytes.now c.args.at c.args.depth c.in_ok-node.ensures.value c.in-Binary.is) (grind (arith, nat_tests))
 
-pub returns-in_err-b : goal.returns-in_err-b
-returns-in_err-b t c = rw (grows c.args.bytes.now c.args.at c.args.depth c.in_ok-node.ensures.value c.in-Binary.is) (grind (arith, nat_tests))
+pub returns-in_err-b-in-Binary : goal.returns-in_err-b-in-Binary
+returns-in_err-b-in-Binary t c = rw (grows c.args.bytes.now c.args.at c.args.depth c.in_ok-node.ensures.value c.in-Binary.is) (grind (arith, nat_tests))
 
-pub returns-in_err-a-2 : goal.returns-in_err-a-2
-returns-in_err-a-2 t c = rw (grows c.args.bytes.now c.args.at c.args.depth c.in_ok-node.ensures.value c.in-Choose.is) (grind (arith, nat_tests))
+pub returns-in_err-a-in-Choose : goal.returns-in_err-a-in-Choose
+returns-in_err-a-in-Choose t c = rw (grows c.args.bytes.now c.args.at c.args.depth c.in_ok-node.ensures.value c.in-Choose.is) (grind (arith, nat_tests))
 
-pub returns-in_err-b-2 : goal.returns-in_err-b-2
-returns-in_err-b-2 t c = rw (grows c.args.bytes.now c.args.at c.args.depth c.in_ok-node.ensures.value c.in-Choose.is) (grind (arith, nat_tests))
+pub returns-in_err-b-in-Choose : goal.returns-in_err-b-in-Choose
+returns-in_err-b-in-Choose t c = rw (grows c.args.bytes.now c.args.at c.args.depth c.in_ok-node.ensures.value c.in-Choose.is) (grind (arith, nat_tests))
 
-pub returns-in_err-c : goal.returns-in_err-c
-returns-in_err-c t c = rw (grows c.args.bytes.now c.args.at c.args.depth c.in_ok-node.ensures.value c.in-Choose.is) (grind (arith, nat_tests))
+pub returns-in_err-c-in-Choose : goal.returns-in_err-c-in-Choose
+returns-in_err-c-in-Choose t c = rw (grows c.args.bytes.now c.args.at c.args.depth c.in_ok-node.ensures.value c.in-Choose.is) (grind (arith, nat_tests))
 
 pub returns-in-Constant : goal.returns-in-Constant
 returns-in-Constant t c = rw (grows c.args.bytes.now c.args.at c.args.depth c.in_ok-node.ensures.value c.in-Constant.is) (grind (arith, nat_tests))
@@ -36,14 +36,14 @@ returns-in-Channel t c = rw (grows c.args.bytes.now c.args.at c.args.depth c.in_
 pub returns-in-Stream : goal.returns-in-Stream
 returns-in-Stream t c = rw (grows c.args.bytes.now c.args.at c.args.depth c.in_ok-node.ensures.value c.in-Stream.is) (grind (arith, nat_tests))
 
-pub returns-in_ok-operand : goal.returns-in_ok-operand
-returns-in_ok-operand t c = rw (grows c.args.bytes.now c.args.at c.args.depth c.in_ok-node.ensures.value c.in-Unary.is) (grind (arith, nat_tests))
+pub returns-in_ok-operand-in-Unary : goal.returns-in_ok-operand-in-Unary
+returns-in_ok-operand-in-Unary t c = rw (grows c.args.bytes.now c.args.at c.args.depth c.in_ok-node.ensures.value c.in-Unary.is) (grind (arith, nat_tests))
 
-pub returns-in_ok-operand-2 : goal.returns-in_ok-operand-2
-returns-in_ok-operand-2 t c = rw (grows c.args.bytes.now c.args.at c.args.depth c.in_ok-node.ensures.value c.in-Cast.is) (grind (arith, nat_tests))
+pub returns-in_ok-operand-in-Cast : goal.returns-in_ok-operand-in-Cast
+returns-in_ok-operand-in-Cast t c = rw (grows c.args.bytes.now c.args.at c.args.depth c.in_ok-node.ensures.value c.in-Cast.is) (grind (arith, nat_tests))
 
-pub returns-in_ok-right : goal.returns-in_ok-right
-returns-in_ok-right t c = rw (grows c.args.bytes.now c.args.at c.args.depth c.in_ok-node.ensures.value c.in-Binary.is) (grind (arith, nat_tests))
+pub returns-in_ok-right-in-Binary : goal.returns-in_ok-right-in-Binary
+returns-in_ok-right-in-Binary t c = rw (grows c.args.bytes.now c.args.at c.args.depth c.in_ok-node.ensures.value c.in-Binary.is) (grind (arith, nat_tests))
 
-pub returns-in_ok-no : goal.returns-in_ok-no
-returns-in_ok-no t c = rw (grows c.args.bytes.now c.args.at c.args.depth c.in_ok-node.ensures.value c.in-Choose.is) (grind (arith, nat_tests))
+pub returns-in_ok-no-in-Choose : goal.returns-in_ok-no-in-Choose
+returns-in_ok-no-in-Choose t c = rw (grows c.args.bytes.now c.args.at c.args.depth c.in_ok-node.ensures.value c.in-Choose.is) (grind (arith, nat_tests))

@@ -7,7 +7,7 @@ use Rattle.syntax.specs.Written.{AcceptsWritten}
 use Rattle.syntax.proofs.Turns.{table_yields}
 use Rattle.syntax.proofs.Accepted.{accepts_written}
 use Rattle.syntax.proofs.table.read_table.Goals as goal
-use Rattle.syntax.proofs.table.read_table.Goals.{then-is-empty-via-then-is-empty, then-is-empty-via-else-is-empty+then-bytes-ne-VERSION}
+use Rattle.syntax.proofs.table.read_table.Goals.{then-is_empty-via-then-is_empty, then-is_empty-via-else-is_empty+then-bytes-ne-VERSION}
 
 -- the law, of a slice whose elements are bytes
 law : (bs : List ℕ) → ((i : ℕ) → Fits w8 (get_or bs i 0)) → AcceptsWritten bs
@@ -19,7 +19,7 @@ returns-then-is_empty c =
     record {
       answer =
           elim c.then-is_empty.branch [
-            | then-is-empty-via-then-is-empty w ↦ grind (arith, nat_tests, get_or_past c.args.bytes.now 0 0)
+            | then-is_empty-via-then-is_empty w ↦ grind (arith, nat_tests, get_or_past c.args.bytes.now 0 0)
             | then-is_empty-via-else-is_empty+then-bytes-ne-VERSION w ↦ grind (arith, nat_tests)
           ];
       law = law c.args.bytes.now c.type_inv.bytes;
