@@ -64,8 +64,8 @@ fn check_input(rt: &HostRuntime, report: Report) -> anyhow::Result<()> {
 fn run(rt: &HostRuntime) -> anyhow::Result<()> {
     match env::args(rt)?.nth(1) {
         None => check_input(rt, Report::Line),
-        Some(word) if word == "--walk" => check_input(rt, Report::Walk),
-        Some(word) if word == "--help" => {
+        Some(word) if word.as_str() == "--walk" => check_input(rt, Report::Walk),
+        Some(word) if word.as_str() == "--help" => {
             println!(rt; "{USAGE}")?;
             Ok(())
         }

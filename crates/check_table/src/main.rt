@@ -49,7 +49,7 @@ fn check_input(rt: &HostRuntime) -> anyhow::Result<()> {
 fn run(rt: &HostRuntime) -> anyhow::Result<()> {
     match env::args(rt)?.nth(1) {
         None => check_input(rt),
-        Some(word) if word == "--help" => {
+        Some(word) if word.as_str() == "--help" => {
             println!(rt; "{USAGE}")?;
             Ok(())
         }

@@ -3,7 +3,7 @@ use Rattle.std.proofs.Common.{◌≡◌, ℕ, List, [], ◌∷◌, ◌++◌, ref
 use Rattle.std.specs.List.{AllByRecursion as All}
 use Rattle.values.specs.declared.value.Value.{Value}
 use Rattle.values.specs.Values.{num, wrap}
-use Rattle.operators.specs.Operators.{unary, binary}
+use Rattle.operators.specs.Operators.{unary}
 use Rattle.syntax.specs.Trees.{Exp}
 use Rattle.syntax.specs.Trees as tree
 use Rattle.names.specs.Uses.{uses}

@@ -1,5 +1,5 @@
 -- A typed expression is no deeper than its types were sought, and its value has its type. Assumes nothing.
-use Rattle.std.proofs.Common.{◌≡◌, ℕ, zero, suc, ◌+◌, ◌≤◌, Bool as Truth, true, false, cond, ◌&&◌, eqb, List, ◌++◌, ℤ, Some, None, Ok, Err, Option, Result, sym, refl, ap, ◌∙◌, arith}
+use Rattle.std.proofs.Common.{◌≡◌, ℕ, zero, suc, ◌≤◌, Bool as Truth, true, false, cond, ◌&&◌, List, ◌++◌, ℤ, Some, None, Ok, Err, Option, Result, sym, refl, ap, ◌∙◌, arith}
 use Rattle.std.proofs.lemmas.Bool.{cond_both, and_parts, eqb-true}
 use Rattle.faults.specs.declared.cause.Cause.{Cause}
 use Rattle.values.specs.declared.types.«Type».{«Type» as Ty}
@@ -13,7 +13,7 @@ use Rattle.operators.specs.declared.operator.Unary.{Unary}
 use Rattle.operators.specs.declared.operator.Unary.TheVariants.{Not, Negate}
 use Rattle.operators.specs.declared.operator.Binary.{Binary}
 use Rattle.operators.specs.declared.operator.Binary.TheVariants.{And, Or, Add, Subtract, Multiply, Quotient, Remainder, Equal, Less, AtMost}
-use Rattle.operators.specs.Operators.{truth, unary, binary, chosen}
+use Rattle.operators.specs.Operators.{truth, unary, binary}
 use Rattle.syntax.specs.Trees.{Exp}
 use Rattle.syntax.specs.Trees as tree
 use Rattle.syntax.proofs.Complete.{type_back}

@@ -12,7 +12,7 @@ use Rattle.walks.specs.Edges.{Fits}
 use Rattle.layout.specs.declared.layout.Layout.{Layout}
 use Rattle.layout.specs.Layouts as layouts
 use Rattle.schedule.specs.declared.plan.Plan.{Plan}
-use Rattle.schedule.specs.Graphs.{stream, graph, told, IsChannel}
+use Rattle.schedule.specs.Graphs.{graph, told, IsChannel}
 use Rattle.schedule.specs.Edges.{InOrder, node, id_at, edge, edges}
 use Rattle.schedule.specs.Plans.{ring_count, lead_by, Measured, slots_before, lead_in, length_in, ring_in, Ordered, Planned}
 use Rattle.schedule.specs.Placements.{ring_at, Places}

@@ -1,4 +1,4 @@
-use Rattle.std.proofs.Common.{◌≡◌, ◌++◌, map, vec_items, ap}
+use Rattle.std.proofs.Common.{◌≡◌, ◌++◌, map, vec_items}
 use Rattle.syntax.specs.Trees.{exp}
 use Rattle.names.specs.Uses.{uses, gathered}
 use Rattle.references.proofs.Adding.{both}

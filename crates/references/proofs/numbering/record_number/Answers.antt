@@ -4,7 +4,7 @@ use Rattle.syntax.specs.Entries.{entry_of}
 use Rattle.references.specs.References.{position}
 use Rattle.references.proofs.Places.{found, passed, other, end, told}
 use Rattle.references.proofs.numbering.record_number.Goals as goal
-use Rattle.references.proofs.numbering.record_number.Goals.{then-is-of+else-before-eq0, else-is-of}
+use Rattle.references.proofs.numbering.record_number.Goals.{then-is_of+else-before-eq0, else-is_of}
 
 pub returns-then-before-eq0 : goal.returns-then-before-eq0
 returns-then-before-eq0 c =
@@ -18,7 +18,7 @@ loop-i-preserved c =
       | then-is_of+else-before-eq0 w ↦
           passed c.args.id.kind c.loop-i.before c.args.records.now c.loop-i.i c.loop-i.invariant c.index-records-i.result c.loop-i-test.true c.index-records-i.is w.if-is_of.ensures (omega arith)
           ∙ ap at (sym w.before-is)
-      | else-is-of w ↦
+      | else-is_of w ↦
           other c.args.id.kind c.loop-i.before c.args.records.now c.loop-i.i c.loop-i.invariant c.index-records-i.result c.loop-i-test.true c.index-records-i.is w.if-is_of.ensures
           ∙ ap at (sym w.before-is)
     ]

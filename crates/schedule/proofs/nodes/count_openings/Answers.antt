@@ -5,8 +5,8 @@ use Rattle.schedule.specs.Graphs.{opening_count, record_at, openings}
 use Rattle.schedule.proofs.Describing.{openings_found}
 use Rattle.schedule.proofs.nodes.count_openings.Goals as goal
 
-pub offset-bounds-records-i : goal.offset-bounds-records-i
-offset-bounds-records-i c =
+pub offset_bounds-records-i : goal.offset_bounds-records-i
+offset_bounds-records-i c =
     let e = length-map c.args.records.now entry_of in
     let h : c.in-Some.i < length c.args.records.now = omega (arith, c.in-Some.ensures.law.inside) in
     search rules
