@@ -24,16 +24,15 @@ returns-in_err-bytes c =
     rw (p.1, p.2)
     (c.in_ok-plan.ensures.0, starved bytes (entries_of c.in_ok-records.records) c.args.sheet.now (written_law bytes c.type_inv.bytes) c.in_ok-records.ensures.0 c.if-sheet-lt-LEAST_SHEET.false)
 
-pub invariant-of-result : goal.invariant-of-result
-invariant-of-result c =
-    let same : vec_items c.in_ok-bytes.bytes ≡ c.args.bytes.now = search rules in (
-      ∣ record {
+pub invariant_of-result : goal.invariant_of-result
+invariant_of-result c =
+    let same : vec_items c.in_ok-bytes.bytes ≡ c.args.bytes.now = search rules in record {
+      accepted = ∣ record {
         order = ap checked same ∙ c.in_ok-records.ensures.0;
         planned = subst (λ (l : List Record). Planned (map entry_of l) c.in_ok-plan.plan) c.deref.ensures.value c.in_ok-plan.ensures.1;
         small = c.in_ok-plan.ensures.2;
-      } ∣₁,
-      tt,
-    )
+      } ∣₁;
+    }
 
 pub returns : goal.returns
 returns c =

@@ -3,8 +3,8 @@ use Rattle.syntax.specs.Entries.{entry_of}
 use Rattle.acceptance.proofs.Beginning.{first_order, first_accepted}
 use Rattle.acceptance.proofs.table.Table.new.Goals as goal
 
-pub invariant-of-result : goal.invariant-of-result
-invariant-of-result c = (∣ first_accepted _ _ _ c.in_ok-bytes.ensures.items (ap (map entry_of) c.new-records.ensures.items) refl ∣₁, tt)
+pub invariant_of-result : goal.invariant_of-result
+invariant_of-result c = record { accepted = ∣ first_accepted _ _ _ c.in_ok-bytes.ensures.items (ap (map entry_of) c.new-records.ensures.items) refl ∣₁ }
 
 pub returns : goal.returns
 returns c = record {
