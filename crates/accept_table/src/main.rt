@@ -6,6 +6,7 @@ ghost use Rattle.std.specs.Prelude.{◌≤◌, length, IfOk};
 use acceptance::line::{tell, tell_walk};
 use anyhow::anyhow;
 use std::io::Read;
+use std::process::ExitCode;
 use std::{env, io};
 
 // One byte more than a table may have, so that a longer input is seen to be one.
@@ -75,12 +76,12 @@ fn run(rt: &HostRuntime) -> anyhow::Result<()> {
     }
 }
 
-fn main(rt: HostRuntime) -> anyhow::Result<()> {
+fn main(rt: HostRuntime) -> ExitCode {
     match run(&rt) {
-        Ok(()) => Ok(()),
+        Ok(()) => ExitCode::SUCCESS,
         Err(e) => {
-            eprintln!(rt; "accept_table: {e}")?;
-            Err(e)
+            let _told = eprintln!(rt; "accept_table: {e}");
+            ExitCode::FAILURE
         }
     }
 }

@@ -9,6 +9,7 @@ use acceptance::line::tell;
 use hexadecimal::parse_hex;
 use std::alloc::{AllocError, Global};
 use std::io::{BufRead, BufReader};
+use std::process::ExitCode;
 
 // The bytes of a table that a line writes: `-` for none, else hexadecimal.
 fn read_line(heap: Global, text: &str) -> Result<Option<Vec<u8>>, AllocError>
@@ -45,12 +46,12 @@ fn run(rt: &HostRuntime) -> anyhow::Result<()> {
     Ok(())
 }
 
-fn main(rt: HostRuntime) -> anyhow::Result<()> {
+fn main(rt: HostRuntime) -> ExitCode {
     match run(&rt) {
-        Ok(()) => Ok(()),
+        Ok(()) => ExitCode::SUCCESS,
         Err(e) => {
-            eprintln!(rt; "acceptance_vectors: {e}")?;
-            Err(e)
+            let _told = eprintln!(rt; "acceptance_vectors: {e}");
+            ExitCode::FAILURE
         }
     }
 }

@@ -5,6 +5,7 @@ ghost use Rattle.std.specs.Prelude.{◌≤◌, length, IfOk};
 
 use anyhow::anyhow;
 use std::io::Read;
+use std::process::ExitCode;
 use std::{env, io};
 use tables::check::answer;
 
@@ -59,12 +60,12 @@ fn run(rt: &HostRuntime) -> anyhow::Result<()> {
     }
 }
 
-fn main(rt: HostRuntime) -> anyhow::Result<()> {
+fn main(rt: HostRuntime) -> ExitCode {
     match run(&rt) {
-        Ok(()) => Ok(()),
+        Ok(()) => ExitCode::SUCCESS,
         Err(e) => {
-            eprintln!(rt; "check_table: {e}")?;
-            Err(e)
+            let _told = eprintln!(rt; "check_table: {e}");
+            ExitCode::FAILURE
         }
     }
 }

@@ -8,6 +8,7 @@ ghost use Rattle.table_vectors.specs.Telling.{table_of, told};
 use hexadecimal::parse_hex;
 use std::alloc::{AllocError, Global};
 use std::io::{BufRead, BufReader};
+use std::process::ExitCode;
 use tables::check::answer;
 
 // The bytes of a table that a line writes: `-` for none, else hexadecimal.
@@ -45,12 +46,12 @@ fn run(rt: &HostRuntime) -> anyhow::Result<()> {
     Ok(())
 }
 
-fn main(rt: HostRuntime) -> anyhow::Result<()> {
+fn main(rt: HostRuntime) -> ExitCode {
     match run(&rt) {
-        Ok(()) => Ok(()),
+        Ok(()) => ExitCode::SUCCESS,
         Err(e) => {
-            eprintln!(rt; "table_vectors: {e}")?;
-            Err(e)
+            let _told = eprintln!(rt; "table_vectors: {e}");
+            ExitCode::FAILURE
         }
     }
 }
