@@ -47,7 +47,7 @@ fn lists_the_walk_to_blame(rt: HostRuntime) -> Result<(), Fail> {
 #[test]
 fn keeps_what_it_accepted(rt: HostRuntime) -> Result<(), Fail> {
     let mut table = Table::new(rt.alloc())?;
-    assert!(rt; table.bytes() == &[1u8]);
+    assert!(rt; table.bytes() == [1u8].as_slice());
     let mut sheet = [BLANK; 33];
     assert!(rt; table.check(rt.alloc(), &TWO_STREAMS, &mut sheet).is_ok());
     assert!(rt;
@@ -55,6 +55,9 @@ fn keeps_what_it_accepted(rt: HostRuntime) -> Result<(), Fail> {
         "an acceptance keeps the sheet"
     );
     assert!(rt; table.check(rt.alloc(), &one_stream(1), &mut sheet).is_err());
-    assert!(rt; table.bytes() == &TWO_STREAMS, "a refusal keeps the table");
+    assert!(rt;
+        table.bytes() == TWO_STREAMS.as_slice(),
+        "a refusal keeps the table"
+    );
     Ok(())
 }
