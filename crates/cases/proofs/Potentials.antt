@@ -1,6 +1,6 @@
 -- Bounds on the walks of a graph, from a number at each record that every reference keeps. Assumes nothing.
 use Rattle.std.proofs.Common.{◌≡◌, ℕ, suc, List, [], ◌∷◌, length, ℤ, pos, ◌+ℤ◌, ◌≤ℤ◌, sym, subst, arith}
-use Rattle.std.specs.List.{AllByRecursion as All}
+use Rattle.std.specs.List.{AllByRecursion}
 use Rattle.std.proofs.lemmas.Int.{ints}
 use Rattle.syntax.specs.declared.record.Kind.{Kind}
 use Rattle.syntax.specs.declared.record.Kind.TheVariants.{Channel, Stream, Rule}
@@ -25,13 +25,13 @@ module _ {R N : Type 0} (G : Graph R N) where
 
   module _ (h : N → ℤ) where
     -- where no reference reaches further than what it reads stands, no walk does
-    pub bounded : All (λ r. reach G h r ≤ℤ h (G.read r)) G.references → (a b : N) (w : List R) → Walk G a w b → (h a +ℤ weigh G w) ≤ℤ h b
+    pub bounded : AllByRecursion (λ r. reach G h r ≤ℤ h (G.read r)) G.references → (a b : N) (w : List R) → Walk G a w b → (h a +ℤ weigh G w) ≤ℤ h b
     bounded up a b w p = along b (λ x z n. (h x +ℤ z) ≤ℤ h b) (omega (arith, ints))
         (λ r m z n q. omega (arith, ints, all_in (λ s. reach G h s ≤ℤ h (G.read s)) G.references r up m))
         a w p
 
     -- and where each falls short of it, every closed walk weighs less than 0
-    pub falls : All (λ r. (reach G h r +ℤ pos 1) ≤ℤ h (G.read r)) G.references → Falling G
+    pub falls : AllByRecursion (λ r. (reach G h r +ℤ pos 1) ≤ℤ h (G.read r)) G.references → Falling G
     falls up a w r =
         let short : ((h a +ℤ weigh G w) +ℤ pos (length w)) ≤ℤ h a =
         along a (λ x z n. ((h x +ℤ z) +ℤ pos n) ≤ℤ h a) (omega (arith, ints))
@@ -40,12 +40,12 @@ module _ {R N : Type 0} (G : Graph R N) where
         omega (arith, ints, r.some, r.heavy)
 
     -- each reference to q reaches at least so far
-    pub reaching : (q : N) (least : ℤ) → All (λ r. G.read r ≡ q → least ≤ℤ reach G h r) G.references →
+    pub reaching : (q : N) (least : ℤ) → AllByRecursion (λ r. G.read r ≡ q → least ≤ℤ reach G h r) G.references →
         (r : R) → In r G.references → G.read r ≡ q → least ≤ℤ reach G h r
     reaching q least all r m = all_in (λ s. G.read s ≡ q → least ≤ℤ reach G h s) G.references r all m
 
 -- leads that no reference passes
-module _ (rs : List Entry) (lead : ℕ → ℕ) (up : All (λ r. reach (graph rs) (lead_by lead) r ≤ℤ lead_by lead r.read) (references [] rs)) where
+module _ (rs : List Entry) (lead : ℕ → ℕ) (up : AllByRecursion (λ r. reach (graph rs) (lead_by lead) r ≤ℤ lead_by lead r.read) (references [] rs)) where
   above : (k : Kind) (n : ℕ) → pos 0 ≤ℤ lead_of_kind lead k n
   above Channel n = omega (arith, ints)
   above Stream n = omega (arith, ints)

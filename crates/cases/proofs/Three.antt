@@ -1,7 +1,7 @@
 -- Three streams that read one another down to a channel: m0 = [0, 1, 2] ++ (channel 0 + 3), m1 = m0 + m0 and m2 = drop d m1. Assumes nothing.
 use Rattle.std.proofs.Common.{◌≡◌, ℕ, zero, suc, ◌+◌, ◌<◌, ◌≤◌, List, [], ◌∷◌, length, ℤ, pos, negsuc, ◌+ℤ◌, ◌≤ℤ◌, Ok, sym, refl, ap, subst, inl, inr, arith}
 use lib.Signed.{le_z_yes}
-use Rattle.std.specs.List.{AllByRecursion as All}
+use Rattle.std.specs.List.{AllByRecursion}
 use Rattle.std.proofs.lemmas.Int.{ints}
 use Rattle.values.specs.declared.types.«Type».TheVariants as type
 use Rattle.values.specs.declared.value.Value.TheVariants as value
@@ -85,7 +85,7 @@ leads zero = 3
 leads (suc zero) = 3
 leads (suc (suc n)) = 0
 
-up : All (λ r. reach (graph (three_records 3)) (lead_by leads) r ≤ℤ lead_by leads r.read) (references [] (three_records 3))
+up : AllByRecursion (λ r. reach (graph (three_records 3)) (lead_by leads) r ≤ℤ lead_by leads r.read) (references [] (three_records 3))
 unfolding openings
 up = (le_z_yes tt, (le_z_yes tt, (le_z_yes tt, (le_z_yes tt, tt))))
 
@@ -156,7 +156,7 @@ From a z n = (z ≡ weight_from a.kind a.number) × (n ≡ length_from a.kind a.
 abbrev More : Reference → Type 0
 More r = (z : ℤ) (n : ℕ) → From r.read z n → From r.reader ((graph (three_records 4)).weight r +ℤ z) (suc n)
 
-more : All More (references [] (three_records 4))
+more : AllByRecursion More (references [] (three_records 4))
 unfolding openings
 more =
     let one : More from_m0 = λ z n f. (omega (arith, ints, f.0), omega (arith, f.1)) in

@@ -1,7 +1,7 @@
 -- Two streams that read each other: m3 = [0, 1, 2] ++ m2 and m2 = drop 1 m3. Assumes nothing.
 use Rattle.std.proofs.Common.{◌≡◌, ℕ, zero, suc, ◌<◌, ◌≤◌, List, [], ◌∷◌, pos, negsuc, ◌≤ℤ◌, Ok, refl, ap, subst, inl, inr, arith}
 use lib.Signed.{le_z_yes}
-use Rattle.std.specs.List.{AllByRecursion as All}
+use Rattle.std.specs.List.{AllByRecursion}
 use Rattle.std.proofs.lemmas.Int.{ints}
 use Rattle.values.specs.declared.types.«Type».TheVariants as type
 use Rattle.values.specs.declared.value.Value.TheVariants as value
@@ -63,7 +63,7 @@ two_falls : Falling (graph two_records)
 unfolding openings
 two_falls = falls (graph two_records) (lead_by heights) (le_z_yes tt, (le_z_yes tt, tt))
 
-up : All (λ r. reach (graph two_records) (lead_by two_leads) r ≤ℤ lead_by two_leads r.read) (references [] two_records)
+up : AllByRecursion (λ r. reach (graph two_records) (lead_by two_leads) r ≤ℤ lead_by two_leads r.read) (references [] two_records)
 unfolding openings
 up = (le_z_yes tt, (le_z_yes tt, tt))
 

@@ -1,6 +1,6 @@
 -- An expression has one value over all sources that agree on what it names. Assumes nothing.
 use Rattle.std.proofs.Common.{◌≡◌, ℕ, List, [], ◌∷◌, ◌++◌, refl, ap}
-use Rattle.std.specs.List.{AllByRecursion as All}
+use Rattle.std.specs.List.{AllByRecursion}
 use Rattle.values.specs.declared.value.Value.{Value}
 use Rattle.values.specs.Values.{num, wrap}
 use Rattle.operators.specs.Operators.{unary}
@@ -11,11 +11,11 @@ use Rattle.evaluation.specs.Meaning.{meaning, Agree, DependsOnNames}
 
 -- what holds of each element of two lists holds of each of one of them
 module _ {X : Type 0} (P : X → Type 0) where
-  pub all_left : (xs ys : List X) → All P (xs ++ ys) → All P xs
+  pub all_left : (xs ys : List X) → AllByRecursion P (xs ++ ys) → AllByRecursion P xs
   all_left [] ys h = tt
   all_left (x ∷ xs) ys h = (h.0, all_left xs ys h.1)
 
-  pub all_right : (xs ys : List X) → All P (xs ++ ys) → All P ys
+  pub all_right : (xs ys : List X) → AllByRecursion P (xs ++ ys) → AllByRecursion P ys
   all_right [] ys h = h
   all_right (x ∷ xs) ys h = all_right xs ys h.1
 

@@ -1,6 +1,6 @@
 -- The value of a typed expression, and its type. Assumes nothing.
 use Rattle.std.specs.Prelude.{◌≡◌, ℕ, List, Ok, slice_index_or}
-use Rattle.std.specs.List.{AllByRecursion as All}
+use Rattle.std.specs.List.{AllByRecursion}
 use Rattle.values.specs.declared.types.«Type».{«Type» as Ty}
 use Rattle.values.specs.declared.types.«Type».TheVariants.{Bool}
 use Rattle.values.specs.declared.value.Value.{Value}
@@ -17,7 +17,7 @@ OfType cs ss c s (stream i d) = type_of (s i d) ≡ slice_index_or ss i Bool
 
 -- and so at all that is used
 abbrev pub OfTypes : List Ty → List Ty → (ℕ → Value) → (ℕ → ℕ → Value) → List Use → Type 0
-OfTypes cs ss c s us = All (λ u. OfType cs ss c s u.name) us
+OfTypes cs ss c s us = AllByRecursion (λ u. OfType cs ss c s u.name) us
 
 -- where the expression is typed t, v is its meaning; and v has the type t where the source's values have the declared types
 abbrev pub HasMeaning : (ℕ → Value) → (ℕ → ℕ → Value) → Exp → Value → Type 0

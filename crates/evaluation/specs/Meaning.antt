@@ -1,6 +1,6 @@
 -- The value of an expression, over the samples of channels and the values of streams. Assumes nothing.
 use Rattle.std.specs.Prelude.{◌≡◌, ℕ, ◌+◌, max, List}
-use Rattle.std.specs.List.{AllByRecursion as All}
+use Rattle.std.specs.List.{AllByRecursion}
 use Rattle.values.specs.declared.value.Value.{Value}
 use Rattle.values.specs.Values.{num, wrap}
 use Rattle.operators.specs.Operators.{unary, binary, chosen}
@@ -35,7 +35,7 @@ Same c s c' s' (stream i d) = s i d ≡ s' i d
 
 -- two sources agree on what is used
 abbrev pub Agree : (ℕ → Value) → (ℕ → ℕ → Value) → (ℕ → Value) → (ℕ → ℕ → Value) → List Use → Type 0
-Agree c s c' s' us = All (λ u. Same c s c' s' u.name) us
+Agree c s c' s' us = AllByRecursion (λ u. Same c s c' s' u.name) us
 
 -- an expression has one value over all sources that agree on what it names
 abbrev pub DependsOnNames : Exp → Type 0

@@ -1,6 +1,6 @@
 -- The heights after a number of climbs, and the walks that they weigh. Assumes nothing.
 use Rattle.std.proofs.Common.{◌≡◌, ℕ, zero, suc, ◌+◌, ◌*◌, ◌<◌, ◌≤◌, List, [], ◌∷◌, ◌++◌, length, get_or, replicate, pos, ◌+ℤ◌, ◌≤ℤ◌, fold, sym, refl, ap, ◌∙◌, arith}
-use Rattle.std.specs.List.{AllByRecursion as All}
+use Rattle.std.specs.List.{AllByRecursion}
 use Rattle.std.proofs.ByRecursion.{All-weaker}
 use Rattle.std.proofs.lemmas.List.{ext_get_or}
 use Rattle.std.proofs.lemmas.Int.{ints}
@@ -24,11 +24,11 @@ unfolding heights
 heights_more es m = ap (heights es) (let q : m + 1 ≡ suc m = omega arith in q)
 
 -- one climb goes at most 4033 up, which is the greatest steep weight
-pub folded_low : (es : List Edge) → All Bounded es → (b : ℕ) (from : List ℕ) → Low b from → Low (b + 4033) (fold (topped (height_over from)) from es)
+pub folded_low : (es : List Edge) → AllByRecursion Bounded es → (b : ℕ) (from : List ℕ) → Low b from → Low (b + 4033) (fold (topped (height_over from)) from es)
 folded_low es bounded b from low s =
     folded_each (height_over from) (λ c x. x ≤ b + 4033) es from (λ e i x l h. omega (arith, (all_in Bounded es e bounded i).drop, low e.reader)) (λ c. omega (arith, low c)) s
 
-module _ (es : List Edge) (bounded : All Bounded es) where
+module _ (es : List Edge) (bounded : AllByRecursion Bounded es) where
   pub heights_length : (m : ℕ) → length (heights es m) ≡ 64
   unfolding heights climbed
   heights_length zero = refl
@@ -99,5 +99,5 @@ at_rest channels streams es fits falls = ext_get_or 0 (heights es 34) (heights e
       folded_up (height_over (heights es 33)) es (heights es 33) s,
     ))
   where
-    bounded : All Bounded es
+    bounded : AllByRecursion Bounded es
     bounded = all_bounded channels streams es fits

@@ -1,6 +1,6 @@
 -- Ring lengths by the leads. Assumes nothing.
 use Rattle.std.proofs.Common.{◌≡◌, ℕ, zero, suc, ◌<◌, ◌≤◌, ◌⊎◌, List, get_or, replicate, pos, ◌+ℤ◌, ◌-ℤ◌, ◌≤ℤ◌, refl, ap, inl, inr, arith}
-use Rattle.std.specs.List.{AllByRecursion as All}
+use Rattle.std.specs.List.{AllByRecursion}
 use Rattle.std.proofs.ByRecursion.{All-weaker}
 use Rattle.std.proofs.lemmas.List.{get_or-replicate}
 use Rattle.std.proofs.lemmas.Int.{ints}
@@ -17,7 +17,7 @@ ones_at zero b = omega arith
 ones_at (suc n) zero = omega arith
 ones_at (suc n) (suc b) = ones_at n b
 
-module _ (es : List Edge) (bounded : All Bounded es) (leads : List ℕ) (are : (s : ℕ) → s < 64 → Lead (graph es) s (lead_at leads s)) where
+module _ (es : List Edge) (bounded : AllByRecursion Bounded es) (leads : List ℕ) (are : (s : ℕ) → s < 64 → Lead (graph es) s (lead_at leads s)) where
   below : (e : Edge) → In e es → reach (graph es) (lead_at leads) e ≤ℤ lead_at leads e.read
   below e m =
       let b : Bounded e = all_in Bounded es e bounded m in

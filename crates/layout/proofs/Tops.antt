@@ -1,7 +1,7 @@
 -- Rows that take at each node the greater of what stands there and what an edge brings. Assumes nothing.
 use Rattle.std.proofs.Common.{◌≡◌, ℕ, ◌<◌, ◌≤◌, max, List, [], ◌∷◌, length, get_or, fold, sym, refl, ◌∙◌, subst, inl, inr, arith}
 use native.Mathlib.Decide.{ℕ_discrete, dec_lt}
-use Rattle.std.specs.List.{AllByRecursion as All}
+use Rattle.std.specs.List.{AllByRecursion}
 use Rattle.std.proofs.lemmas.List.{get_or-set_same, get_or-set_other, length-set, set_past}
 use Rattle.std.proofs.ByRecursion.{All-weaker}
 use Rattle.walks.specs.declared.edge.Edge.{Edge}
@@ -45,7 +45,7 @@ module _ (v : Edge → ℕ) where
   folded_up es to b = folded_each (λ c x. get_or to c 0 ≤ x) es to (λ e m x l h. omega arith) (λ c. omega arith) b
 
   -- what an edge brings to a node of the row is met
-  pub folded_met : (es : List Edge) (to : List ℕ) (e : Edge) → All (λ e. e.read < length to) es → In e es → v e ≤ get_or (fold (topped v) to es) e.read 0
+  pub folded_met : (es : List Edge) (to : List ℕ) (e : Edge) → AllByRecursion (λ e. e.read < length to) es → In e es → v e ≤ get_or (fold (topped v) to es) e.read 0
   folded_met [] to e all m = absurd m
   folded_met (x ∷ es) to e all (inr m) = folded_met es (topped v to x) e
       (All-weaker (λ e. e.read < length to) (λ e. e.read < length (topped v to x)) (λ e h. rw length-set h) es all.1) m

@@ -1,6 +1,6 @@
 // Heights: for each node the greatest steep weight of any walk that ends there, where there is one.
 ghost use Rattle.std.specs.Prelude.{◌≡◌, MatchOption, ◌≢◌};
-ghost use Rattle.std.specs.List.{AllByRecursion as All};
+ghost use Rattle.std.specs.List.{AllByRecursion};
 ghost use Rattle.walks.specs.Edges.{Bounded};
 ghost use Rattle.layout.specs.Climbs.{Low, height_over, topped, climbed, heights, Resting};
 
@@ -22,7 +22,7 @@ fn raise(from: &[u32; 64], to: &mut [u32; 64], edge: &Edge)
 
 // The heights after one more climb along every edge.
 fn climb(edges: &[Edge], from: &[u32; 64]) -> [u32; 64]
-    requires bounded { All Bounded edges.now }
+    requires bounded { AllByRecursion Bounded edges.now }
     requires low { Low 900000 from.now }
     ensures { result ≡ climbed edges.now from.now }
 {
@@ -35,7 +35,7 @@ fn climb(edges: &[Edge], from: &[u32; 64]) -> [u32; 64]
 
 // Heights that a climb leaves as they are; none where even the last climb changes them.
 pub(crate) fn resting_heights(edges: &[Edge]) -> Option<[u32; 64]>
-    requires { All Bounded edges.now }
+    requires { AllByRecursion Bounded edges.now }
     ensures { MatchOption result (climbed edges.now (heights edges.now 33) ≢ heights edges.now 33) (λ h. Resting edges.now h) }
 {
     let mut row = [0; 64];

@@ -1,6 +1,6 @@
 // Leads, and the lengths of rings by the leads.
 ghost use Rattle.std.specs.Prelude.{◌≡◌};
-ghost use Rattle.std.specs.List.{AllByRecursion as All};
+ghost use Rattle.std.specs.List.{AllByRecursion};
 ghost use Rattle.walks.specs.Edges.{Bounded};
 ghost use Rattle.layout.specs.Climbs.{Low, topped};
 ghost use Rattle.layout.specs.Sizes.{lead_of, leads_of, span, sizes};
@@ -38,7 +38,7 @@ fn widen(lengths: &mut [u32; 64], edge: &Edge, leads: &[u32; 64])
 
 // How many values each node's ring keeps.
 pub(crate) fn ring_lengths(edges: &[Edge], leads: &[u32; 64]) -> [u32; 64]
-    requires bounded { All Bounded edges.now }
+    requires bounded { AllByRecursion Bounded edges.now }
     requires low { Low 1000000 leads.now }
     ensures { result ≡ sizes edges.now leads.now }
 {

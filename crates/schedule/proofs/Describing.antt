@@ -1,6 +1,6 @@
 -- What is told of records by their ids, and that a node's id is the one that it comes from. Assumes nothing.
 use Rattle.std.proofs.Common.{◌≡◌, ℕ, zero, suc, ◌<◌, ◌≤◌, List, [], ◌∷◌, map, length, get_or, Some, None, Option, sym, ap, ◌∙◌, arith}
-use Rattle.std.specs.List.{AllByRecursion as All, slice_get}
+use Rattle.std.specs.List.{AllByRecursion, slice_get}
 use Rattle.std.proofs.lemmas.Option.{slice_get-get_or}
 use Rattle.std.proofs.lemmas.List.{get_or-map, length-map}
 use Rattle.syntax.specs.declared.record.Record.{Record}
@@ -16,13 +16,13 @@ few_in (entry.channel t) s = omega arith
 few_in (entry.stream t vs e) s = s.0
 few_in (entry.rule g es) s = omega arith
 
-few_at : (rs : List Entry) → All Small rs → (n : ℕ) → opening_count (slice_get rs n) ≤ 64
+few_at : (rs : List Entry) → AllByRecursion Small rs → (n : ℕ) → opening_count (slice_get rs n) ≤ 64
 few_at [] all n = omega arith
 few_at (r ∷ rs) all zero = few_in r all.0
 few_at (r ∷ rs) all (suc n) = few_at rs all.1 n
 
 -- no record has more than 64 opening values
-pub openings_few : (rs : List Entry) (id : Id) → All Small rs → openings rs id ≤ 64
+pub openings_few : (rs : List Entry) (id : Id) → AllByRecursion Small rs → openings rs id ≤ 64
 unfolding openings
 openings_few rs id all = go (position id.kind id.number rs)
   where

@@ -1,7 +1,7 @@
 -- Records and their nodes: each node comes from one record, and edges lie within the limits. Assumes nothing.
 use Rattle.std.proofs.Common.{◌≡◌, ℕ, ◌+◌, ◌-◌, ◌<◌, ◌≤◌, List, [], ◌∷◌, map, get_or, sym, refl, ap, ◌∙◌, subst, arith}
 use native.Mathlib.Decide.{dec_lt}
-use Rattle.std.specs.List.{AllByRecursion as All}
+use Rattle.std.specs.List.{AllByRecursion}
 use Rattle.std.proofs.ByRecursion.{All-map, All-weaker}
 use Rattle.std.proofs.lemmas.Bool.{lt-ltb, le-ltb, cond-true, cond-false}
 use Rattle.syntax.specs.declared.record.Kind.{Kind}
@@ -87,8 +87,8 @@ module _ (rs : List Entry) (o : InOrder rs) where
     read = (node_kind r.read.kind r.read.number s.read).0;
   }
 
-  pub all_near : (ns : Numbering) → ns ≡ numbered rs → All (Near ns) (references [] rs)
-  all_near ns e = subst (λ (n : Numbering). All (Near n) (references [] rs)) (sym e) (All-weaker (Stands rs) (Near (numbered rs)) near (references [] rs) (all_stand rs o))
+  pub all_near : (ns : Numbering) → ns ≡ numbered rs → AllByRecursion (Near ns) (references [] rs)
+  all_near ns e = subst (λ (n : Numbering). AllByRecursion (Near n) (references [] rs)) (sym e) (All-weaker (Stands rs) (Near (numbered rs)) near (references [] rs) (all_stand rs o))
 
   fit : (r : Reference) → Stands rs r → Fit (count Channel rs) (count Stream rs) (edge rs r)
   unfolding node
@@ -125,7 +125,7 @@ module _ (rs : List Entry) (o : InOrder rs) where
         opening = (told i).opening;
       }
 
-  map_same : {X Y : Type 0} (f g : X → Y) (P : X → Type 0) → ((x : X) → P x → f x ≡ g x) → (xs : List X) → All P xs → map f xs ≡ map g xs
+  map_same : {X Y : Type 0} (f g : X → Y) (P : X → Type 0) → ((x : X) → P x → f x ≡ g x) → (xs : List X) → AllByRecursion P xs → map f xs ≡ map g xs
   map_same f g P same [] all = refl
   map_same f g P same (x ∷ xs) all = λ i. same x all.0 i ∷ map_same f g P same xs all.1 i
 

@@ -1,6 +1,6 @@
 -- The references of a table as edges between numbered nodes: the channels by number, then the streams, then the rules. Assumes nothing.
 use Rattle.std.specs.Prelude.{◌≡◌, ℕ, ◌+◌, ◌-◌, ◌<◌, ◌≤◌, cond, List, [], map, Ok, nat_lt, slice_index_or}
-use Rattle.std.specs.List.{AllByRecursion as All}
+use Rattle.std.specs.List.{AllByRecursion}
 use Rattle.syntax.specs.declared.record.Kind.{Kind}
 use Rattle.syntax.specs.declared.record.Kind.TheVariants.{Channel, Stream, Rule}
 use Rattle.syntax.specs.Entries.{Entry, count, limit}
@@ -17,7 +17,7 @@ use Rattle.schedule.specs.Graphs.{openings, number_of, told}
 
 -- what reading and the check of names show: the limits hold, and every name is declared
 pub record InOrder (rs : List Entry) : Type 0 where
-  pub small : All Small rs
+  pub small : AllByRecursion Small rs
   pub few : (k : Kind) → count k rs ≤ limit k
   pub named : undeclared_in rs ≡ Ok tt
 

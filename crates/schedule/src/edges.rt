@@ -1,6 +1,6 @@
 // The references of a table as edges between its nodes.
 ghost use Rattle.std.specs.Prelude.{◌≡◌, map, IfOk};
-ghost use Rattle.std.specs.List.{AllByRecursion as All};
+ghost use Rattle.std.specs.List.{AllByRecursion};
 ghost use Rattle.syntax.specs.Entries.{entry_of};
 ghost use Rattle.schedule.specs.Edges.{InOrder, Near, edge_by, edges};
 
@@ -37,7 +37,7 @@ fn make_edges(
     references: &[Reference],
     nodes: &Nodes,
 ) -> Result<Vec<Edge>, AllocError>
-    requires { All (Near nodes.now.numbering) references.now }
+    requires { AllByRecursion (Near nodes.now.numbering) references.now }
     ensures { IfOk result (λ v. v.items ≡ map (edge_by nodes.now) references.now) }
 {
     let mut edges = Vec::new(heap);

@@ -1,6 +1,6 @@
 // Records as the nodes of a graph: the channels by number, then the streams, then the rules.
 ghost use Rattle.std.specs.Prelude.{◌≡◌, ℕ, ◌<◌, map, Some, slice_index_or};
-ghost use Rattle.std.specs.List.{AllByRecursion as All};
+ghost use Rattle.std.specs.List.{AllByRecursion};
 ghost use Rattle.syntax.specs.Entries.{entry_of};
 ghost use Rattle.syntax.specs.Written.{Small};
 ghost use Rattle.schedule.specs.Graphs.{opening_count, openings};
@@ -103,7 +103,7 @@ fn count_openings(records: &[Record], id: Id) -> usize
 
 // What an edge tells of the record with an id.
 fn describe(records: &[Record], id: Id) -> Node
-    requires { All Small (map entry_of records.now) }
+    requires { AllByRecursion Small (map entry_of records.now) }
     ensures { result ≡ described (map entry_of records.now) id }
 {
     let number = record_number(records, id).unwrap_or(0);

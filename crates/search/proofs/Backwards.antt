@@ -1,7 +1,7 @@
 -- A walk read off the rows from its end, one edge at a time. Assumes nothing.
 use Rattle.std.proofs.Common.{◌≡◌, ℕ, zero, suc, ◌+◌, ◌-◌, ◌*◌, ◌<◌, ◌≤◌, Bool, true, false, ◌&&◌, eqb, List, [], ◌∷◌, ◌++◌, map, length, get_or, take, drop, set, pos, ◌+ℤ◌, Some, None, Option, unwrap_or, sym, refl, ap, ◌∙◌, subst, inl, inr, arith}
 use native.Mathlib.Decide.{dec_lt}
-use Rattle.std.specs.List.{AllByRecursion as All}
+use Rattle.std.specs.List.{AllByRecursion}
 use Rattle.std.proofs.lemmas.List.{take_more, append_assoc, set_at, length-take-le, take-append-drop}
 use Rattle.std.proofs.lemmas.Int.{ints}
 use Rattle.std.proofs.lemmas.Bool.Decides.{nat_tests}
@@ -97,7 +97,7 @@ module _ {es : List Edge} {rows : List (List (Option ℕ))} {count end whole : �
     pub going_less : lift (get_or es i no_edge) ≤ left
     going_less = let (_, y, _, e) = into_out (get_or rows (k - 1) []) b left (get_or es i no_edge) (found.here going_edge) in omega arith
 
-    pub going_more : All Bounded es → count ≤ length old → (by : ℕ) → by ≡ lift (get_or es i no_edge) →
+    pub going_more : AllByRecursion Bounded es → count ≤ length old → (by : ℕ) → by ≡ lift (get_or es i no_edge) →
         Going es rows count end whole old (set new (k - 1) (get_or es i no_edge).entry) (k - 1) (get_or es i no_edge).reader (left - by)
     going_more small fits by lifts =
         let r : Edge = get_or es i no_edge in
@@ -120,7 +120,7 @@ module _ {es : List Edge} {rows : List (List (Option ℕ))} {count end whole : �
               set_at (take (k - 1) old) (get_or old (k - 1) d) rest d (k - 1) (length-take-le (k - 1) old (omega (arith, o.long)));
         }
 
-  pub going_all : All (Low 0) s → get_or (layer es s count) end None ≡ Some whole → k ≡ 0 → Listed es s (record { node = end; length = count }) old new
+  pub going_all : AllByRecursion (Low 0) s → get_or (layer es s count) end None ≡ Some whole → k ≡ 0 → Listed es s (record { node = end; length = count }) old new
   unfolding layer
   going_all low shown e =
       let p : Going es rows count end whole old new 0 b left = subst (λ (x : ℕ). Going es rows count end whole old new x b left) e o in

@@ -1,7 +1,7 @@
 -- What the rows of walks of k edges say of walks. Assumes nothing.
 use Rattle.std.proofs.Common.{◌≡◌, ℕ, zero, suc, ◌+◌, ◌*◌, ◌<◌, ◌≤◌, true, List, [], ◌∷◌, length, get_or, set, replicate, pos, ◌+ℤ◌, ◌≤ℤ◌, Some, None, Option, sym, refl, ap, ◌∙◌, subst, inl, inr, arith}
 use native.Mathlib.Decide.{ℕ_discrete}
-use Rattle.std.specs.List.{AllByRecursion as All}
+use Rattle.std.specs.List.{AllByRecursion}
 use Rattle.std.proofs.ByRecursion.{All-set, All-weaker}
 use Rattle.std.proofs.lemmas.List.{get_or-set_same, get_or-set_other}
 use Rattle.std.proofs.lemmas.Int.{ints}
@@ -16,13 +16,13 @@ use Rattle.search.proofs.Rows.{none_some, set_some, reaches_less}
 use Rattle.search.proofs.Steps.{none_in, low_nothing, stepped_serves, stepped_low}
 
 -- ---- the rows with no edge
-pub low_alone : (a : ℕ) → All (Low 0) (alone a)
+pub low_alone : (a : ℕ) → AllByRecursion (Low 0) (alone a)
 low_alone a = All-set (Low 0) nothing a (Some 0) (omega arith) (low_nothing 64 0)
 
-pub low_everywhere : All (Low 0) everywhere
+pub low_everywhere : AllByRecursion (Low 0) everywhere
 low_everywhere = go 64
   where
-    go : (n : ℕ) → All (Low 0) (replicate n (Some 0))
+    go : (n : ℕ) → AllByRecursion (Low 0) (replicate n (Some 0))
     go zero = tt
     go (suc n) = (omega arith, go n)
 
@@ -40,15 +40,15 @@ layer_more es s k = ap (layer es s) (let e : k + 1 ≡ suc k = omega arith in e)
 pub row_more : (es : List Edge) (s : List (Option ℕ)) (k : ℕ) (row next : List (Option ℕ)) → row ≡ layer es s k → next ≡ stepped es row → next ≡ layer es s (k + 1)
 row_more es s k row next e n = n ∙ ap (stepped es) e ∙ sym (layer_more es s k)
 
-module _ (es : List Edge) (small : All Bounded es) (s : List (Option ℕ)) where
-  layer_low_by : All (Low 0) s → (k : ℕ) → All (Low (127 * k)) (layer es s k)
+module _ (es : List Edge) (small : AllByRecursion Bounded es) (s : List (Option ℕ)) where
+  layer_low_by : AllByRecursion (Low 0) s → (k : ℕ) → AllByRecursion (Low (127 * k)) (layer es s k)
   unfolding layer
   layer_low_by low zero = low
   layer_low_by low (suc k) =
       let e : 127 * k + 127 ≡ 127 * suc k = omega arith in
-      subst (λ (b : ℕ). All (Low b) (stepped es (layer es s k))) e (stepped_low es (layer es s k) small (127 * k) (layer_low_by low k))
+      subst (λ (b : ℕ). AllByRecursion (Low b) (stepped es (layer es s k))) e (stepped_low es (layer es s k) small (127 * k) (layer_low_by low k))
 
-  pub layer_low : All (Low 0) s → (k : ℕ) → k ≤ 33 → All (Low 8192) (layer es s k)
+  pub layer_low : AllByRecursion (Low 0) s → (k : ℕ) → k ≤ 33 → AllByRecursion (Low 8192) (layer es s k)
   layer_low low k h = All-weaker (Low (127 * k)) (Low 8192) wider (layer es s k) (layer_low_by low k)
     where
       wider : (o : Option ℕ) → Low (127 * k) o → Low 8192 o

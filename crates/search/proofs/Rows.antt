@@ -1,7 +1,7 @@
 -- What stands in a row, and what one edge makes of it. Assumes nothing.
 use Rattle.std.proofs.Common.{◌≡◌, ℕ, ◌+◌, ◌<◌, ◌≤◌, Bool, true, false, cond, leb, ◌⊎◌, List, length, get_or, set, Some, None, Option, sym, refl, ap, ◌∙◌, subst, inl, inr, arith}
 use native.Mathlib.Decide.{ℕ_discrete, dec_lt}
-use Rattle.std.specs.List.{AllByRecursion as All}
+use Rattle.std.specs.List.{AllByRecursion}
 use Rattle.std.proofs.lemmas.List.{get_or-set_same, get_or-set_other, length-set, get_or_past, set_past}
 use Rattle.std.proofs.ByRecursion.{All-get_or, All-set}
 use Rattle.std.proofs.lemmas.Bool.Decides.{nat_tests}
@@ -29,7 +29,7 @@ reaches_beyond : (o : Option ℕ) (y z : ℕ) → reaches o y ≡ false → reac
 reaches_beyond None y z p q = clash false q refl
 reaches_beyond (Some x) y z p q = grind (arith, nat_tests)
 
-pub low_at : (row : List (Option ℕ)) (i x b : ℕ) → All (Low b) row → get_or row i None ≡ Some x → x ≤ b
+pub low_at : (row : List (Option ℕ)) (i x b : ℕ) → AllByRecursion (Low b) row → get_or row i None ≡ Some x → x ≤ b
 low_at row i x b low e = elim (dec_lt i (length row)) [
   | yes l ↦ subst (Low b) e (All-get_or (Low b) row i None l low)
   | no l ↦ none_some (get_or row i None) x (get_or_past row i None (omega arith)) e
@@ -77,11 +77,11 @@ module _ (e : Edge) (to : List (Option ℕ)) where
       go true q = inl q
       go false q = elim (set_some to e.read b z (Some (x + lift e)) q) [ inl k ↦ inl k | inr (same, k) ↦ inr (same, x, refl, (cc)) ]
 
-  pub carried_low : (o : Option ℕ) (b : ℕ) → Bounded e → Low b o → All (Low (b + 127)) to → All (Low (b + 127)) (carried o to e)
+  pub carried_low : (o : Option ℕ) (b : ℕ) → Bounded e → Low b o → AllByRecursion (Low (b + 127)) to → AllByRecursion (Low (b + 127)) (carried o to e)
   carried_low None b small low all = all
   carried_low (Some x) b small low all = go (reaches (get_or to e.read None) (x + lift e))
     where
-      go : (t : Bool) → All (Low (b + 127)) (cond t to (set to e.read (Some (x + lift e))))
+      go : (t : Bool) → AllByRecursion (Low (b + 127)) (cond t to (set to e.read (Some (x + lift e))))
       go true = all
       go false = All-set (Low (b + 127)) to e.read (Some (x + lift e)) (omega (arith, small.drop)) all
 

@@ -1,6 +1,6 @@
 // The walk of the fewest edges that arrives at a target, by the rows.
 ghost use Rattle.std.specs.Prelude.{◌≡◌, ◌+◌, ◌≤◌, MatchOption};
-ghost use Rattle.std.specs.List.{AllByRecursion as All};
+ghost use Rattle.std.specs.List.{AllByRecursion};
 ghost use Rattle.walks.specs.Edges.{Bounded};
 ghost use Rattle.search.specs.Rows.{Low, reaches};
 ghost use Rattle.search.specs.Arrivals.{ring, outside, Unreached, Reached, Missed, First};
@@ -78,8 +78,8 @@ pub(crate) fn first_arrival(
     target: Target,
     limit: usize,
 ) -> Option<Arrival>
-    requires bounded { All Bounded edges.now }
-    requires low { All (Low 0) start }
+    requires bounded { AllByRecursion Bounded edges.now }
+    requires low { AllByRecursion (Low 0) start }
     requires few { limit ≤ 33 }
     requires nodes { target.end ≤ 64 }
     requires light { target.over ≤ 1 }

@@ -1,6 +1,6 @@
 // A closed walk that weighs 0 or more.
 ghost use Rattle.std.specs.Prelude.{◌≡◌, ◌≤◌, length, MatchOption};
-ghost use Rattle.std.specs.List.{AllByRecursion as All};
+ghost use Rattle.std.specs.List.{AllByRecursion};
 ghost use Rattle.walks.specs.Walks.{Falling, TellsClosed};
 ghost use Rattle.walks.specs.Edges.{graph, told, Fits, Bounded};
 ghost use Rattle.search.specs.Arrivals.{Unclosed, Fewest};
@@ -12,7 +12,7 @@ use walks::edge::{Edge, SheetEntry};
 
 // The arrival of a closed walk of the fewest edges that weighs 0 or more, from any stream.
 fn least_closed(edges: &[Edge], channels: usize, streams: usize) -> Option<Arrival>
-    requires bounded { All Bounded edges.now }
+    requires bounded { AllByRecursion Bounded edges.now }
     requires few { (channels ≤ 16) × (streams ≤ 32) }
     ensures { MatchOption result (Unclosed edges.now channels streams streams) (Fewest edges.now channels streams) }
 {

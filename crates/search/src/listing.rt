@@ -1,6 +1,6 @@
 // A walk read off the rows from its end, and listed in the sheet.
 ghost use Rattle.std.specs.Prelude.{◌≡◌, ◌<◌, ◌≤◌, true, length, None, slice_index_or};
-ghost use Rattle.std.specs.List.{AllByRecursion as All};
+ghost use Rattle.std.specs.List.{AllByRecursion};
 ghost use Rattle.walks.specs.Edges.{Bounded};
 ghost use Rattle.search.specs.Rows.{Low, layer, into, reaches};
 ghost use Rattle.search.specs.Listings.{Layers, Found, Listed};
@@ -11,8 +11,8 @@ use walks::edge::{Edge, SheetEntry};
 
 // The rows of walks of 0 to `count` edges.
 fn layers(edges: &[Edge], start: Row, count: usize) -> [Row; 34]
-    requires bounded { All Bounded edges.now }
-    requires low { All (Low 0) start }
+    requires bounded { AllByRecursion Bounded edges.now }
+    requires low { AllByRecursion (Low 0) start }
     requires few { count ≤ 33 }
     ensures { Layers edges.now start count result }
 {
@@ -27,7 +27,7 @@ fn layers(edges: &[Edge], start: Row, count: usize) -> [Row; 34]
 // Whether an edge leads from the row to the weight `left` at `node`.
 fn leads_into(from: &Row, edge: &Edge, node: usize, left: u32) -> bool
     requires bounded { Bounded edge.now }
-    requires low { All (Low 8192) from.now }
+    requires low { AllByRecursion (Low 8192) from.now }
     ensures { result ≡ into from.now node left edge.now }
 {
     if edge.read != node {
@@ -41,8 +41,8 @@ fn leads_into(from: &Row, edge: &Edge, node: usize, left: u32) -> bool
 
 // The first edge that leads from the row to the weight `left` at `node`.
 fn find_into(edges: &[Edge], from: &Row, node: usize, left: u32) -> usize
-    requires bounded { All Bounded edges.now }
-    requires low { All (Low 8192) from.now }
+    requires bounded { AllByRecursion Bounded edges.now }
+    requires low { AllByRecursion (Low 8192) from.now }
     ensures { Found edges.now from.now node left result }
 {
     for (i, edge) in edges.iter().enumerate() {
@@ -55,8 +55,8 @@ fn find_into(edges: &[Edge], from: &Row, node: usize, left: u32) -> usize
 
 // Lists a heaviest walk of the arrival's length to its node.
 pub(crate) fn list_walk(edges: &[Edge], start: Row, arrival: Arrival, sheet: &mut [SheetEntry])
-    requires bounded { All Bounded edges.now }
-    requires low { All (Low 0) start }
+    requires bounded { AllByRecursion Bounded edges.now }
+    requires low { AllByRecursion (Low 0) start }
     requires few { arrival.length ≤ 33 }
     requires space { arrival.length ≤ length sheet.old }
     requires node { arrival.node < 64 }

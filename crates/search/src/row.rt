@@ -1,6 +1,6 @@
 // Rows: for each node the greatest lifted weight of a walk of so many edges that ends there.
 ghost use Rattle.std.specs.Prelude.{◌≡◌, ◌<◌};
-ghost use Rattle.std.specs.List.{AllByRecursion as All};
+ghost use Rattle.std.specs.List.{AllByRecursion};
 ghost use Rattle.walks.specs.Edges.{Bounded};
 ghost use Rattle.search.specs.Rows.{lift, Low, extended, stepped, alone};
 
@@ -20,7 +20,7 @@ pub(crate) fn lift(edge: &Edge) -> u32
 // One edge's part in a step; most often the place is no lower already, and nothing is written.
 fn extend(from: &Row, to: &mut Row, edge: &Edge)
     requires bounded { Bounded edge.now }
-    requires low { All (Low 8192) from.now }
+    requires low { AllByRecursion (Low 8192) from.now }
     ensures { to.new ≡ extended from.now to.old edge.now }
 {
     if let Some(weight) = from[edge.reader] {
@@ -36,8 +36,8 @@ fn extend(from: &Row, to: &mut Row, edge: &Edge)
 
 // The row of the walks that have one edge more.
 pub(crate) fn step(edges: &[Edge], from: &Row) -> Row
-    requires bounded { All Bounded edges.now }
-    requires low { All (Low 8192) from.now }
+    requires bounded { AllByRecursion Bounded edges.now }
+    requires low { AllByRecursion (Low 8192) from.now }
     ensures { result ≡ stepped edges.now from.now }
 {
     let mut to = [None; 64];

@@ -1,6 +1,6 @@
 -- A table that is written is read, and so reading accepts exactly what is written. Assumes nothing.
 use Rattle.std.proofs.Common.{◌≡◌, ℕ, zero, suc, ◌+◌, ◌*◌, ◌/◌, ◌%◌, ◌<◌, ◌≤◌, true, cond, eqb, ltb, List, [], ◌∷◌, ◌++◌, length, get_or, take, drop, Some, Ok, Err, sym, refl, ap, ◌∙◌, subst, arith}
-use Rattle.std.specs.List.{AllByRecursion as All}
+use Rattle.std.specs.List.{AllByRecursion}
 use Rattle.std.proofs.ByRecursion.{All-take}
 use Rattle.std.proofs.lemmas.Bool.Decides.{nat_tests}
 use Rattle.std.proofs.lemmas.List.{append_assoc, append-nil, drop_all}
@@ -39,8 +39,8 @@ kept at (entry.channel t) = refl
 kept at (entry.stream t vs e) = refl
 kept at (entry.rule g es) = refl
 
-module _ (bs : List ℕ) (small : All (λ b. b < 256) bs) where
-  many_is : {X : Type 0} (w : X → List ℕ) (place : ℕ → X → X) (L : X → Type 0) (one : ℕ → Found X) → ((x : X) (at n : ℕ) → Stands bs at (w x) n → n ≤ length bs → L x → one at ≡ Ok (place at x, n)) → (xs : List X) (at n : ℕ) → Stands bs at (joined w xs) n → n ≤ length bs → All L xs → many one (length xs) at ≡ Ok (each place w at xs, n)
+module _ (bs : List ℕ) (small : AllByRecursion (λ b. b < 256) bs) where
+  many_is : {X : Type 0} (w : X → List ℕ) (place : ℕ → X → X) (L : X → Type 0) (one : ℕ → Found X) → ((x : X) (at n : ℕ) → Stands bs at (w x) n → n ≤ length bs → L x → one at ≡ Ok (place at x, n)) → (xs : List X) (at n : ℕ) → Stands bs at (joined w xs) n → n ≤ length bs → AllByRecursion L xs → many one (length xs) at ≡ Ok (each place w at xs, n)
   unfolding many
   many_is w place L one k [] at n s h l = let e : at ≡ n = (let q = s.next in omega (arith, q)) in ap (λ m. Ok ([], m)) e
   many_is w place L one k (x ∷ xs) at n s h l =
@@ -90,7 +90,7 @@ counts before r rs at c k =
     let z = ap {B = ℕ} (λ x. cond (eqb (kind_code x) (kind_code k)) 1 0) (kept at r) in
     omega (arith, e, h, z)
 
-module _ (bs : List ℕ) (small : All (λ b. b < 256) bs) where
+module _ (bs : List ℕ) (small : AllByRecursion (λ b. b < 256) bs) where
   entry_is : (before : List Entry) (r : Entry) (at n : ℕ) → Stands bs at (write_entry r) n → n ≤ length bs → count (kind_of r) before < limit (kind_of r) → Small r → entry_from before bs at ≡ Ok (placed_entry at r, n)
   unfolding entry_from
   entry_is before r at n s h room l =
@@ -113,7 +113,7 @@ module _ (bs : List ℕ) (small : All (λ b. b < 256) bs) where
       ∙ cond-true _ _ _ (lt-ltb (count (kind_of r) before) (limit (kind_of r)) room)
       ∙ filled_is (take n bs) (All-take (λ b. b < 256) n bs small) r (at + 3) n inside (sym (front_long bs n h)) l
 
-  entries_are : (f : ℕ) (before rs : List Entry) (at : ℕ) → Stands bs at (write rs) (length bs) → length bs ≤ at + f → All Small rs → ((k : Kind) → count k before + count k rs ≤ limit k) → entries f before bs at ≡ Ok (before ++ each placed_entry write_entry at rs)
+  entries_are : (f : ℕ) (before rs : List Entry) (at : ℕ) → Stands bs at (write rs) (length bs) → length bs ≤ at + f → AllByRecursion Small rs → ((k : Kind) → count k before + count k rs ≤ limit k) → entries f before bs at ≡ Ok (before ++ each placed_entry write_entry at rs)
   unfolding entries
   entries_are zero before [] at s h l c = ap Ok (sym (append-nil before))
   entries_are (suc f) before [] at s h l c = let q = s.next in cond-false _ _ _ (le-ltb at (length bs) (omega (arith, q))) ∙ ap Ok (sym (append-nil before))
@@ -132,7 +132,7 @@ module _ (bs : List ℕ) (small : All (λ b. b < 256) bs) where
       ∙ ap Ok (append_assoc before (placed_entry at r ∷ []) (each placed_entry write_entry n rs))
 
   -- what is written so, and keeps the limits, is read, with the places where it stands
-  written_read : (rs : List Entry) → bs ≡ 1 ∷ write rs → length bs ≤ 8192 → All Small rs → ((k : Kind) → count k rs ≤ limit k) → read_table bs ≡ Ok (each placed_entry write_entry 1 rs)
+  written_read : (rs : List Entry) → bs ≡ 1 ∷ write rs → length bs ≤ 8192 → AllByRecursion Small rs → ((k : Kind) → count k rs ≤ limit k) → read_table bs ≡ Ok (each placed_entry write_entry 1 rs)
   unfolding read_table
   written_read rs e few l c =
       let v : eqb (get_or bs 0 0) 1 ≡ true = ap (λ xs. eqb (get_or xs 0 0) 1) e in

@@ -1,6 +1,6 @@
 -- An expression that is written is read. Assumes nothing.
 use Rattle.std.proofs.Common.{◌≡◌, ℕ, zero, suc, ◌+◌, ◌<◌, ◌≤◌, false, cond, eqb, List, [], ◌∷◌, ◌++◌, length, get_or, take, drop, Some, Ok, Err, sym, refl, ap, ◌∙◌, arith}
-use Rattle.std.specs.List.{AllByRecursion as All}
+use Rattle.std.specs.List.{AllByRecursion}
 use Rattle.std.proofs.ByRecursion.{All-take, All-drop}
 use Rattle.std.proofs.lemmas.List.{take_at}
 use Rattle.std.proofs.lemmas.Bool.{lt-ltb, le-ltb, le-leb, cond-true, cond-false}
@@ -70,7 +70,7 @@ some_bytes type.Int16 = omega arith
 some_bytes type.Int32 = omega arith
 some_bytes type.Int64 = omega arith
 
-module _ (bs : List ℕ) (small : All (λ b. b < 256) bs) where
+module _ (bs : List ℕ) (small : AllByRecursion (λ b. b < 256) bs) where
   -- the head where an operator's code stands
   head_is : (d at : ℕ) (o : Op) → at < length bs → get_or bs at 0 ≡ op_code o → head (suc d) bs at ≡ after bs at o
   unfolding head

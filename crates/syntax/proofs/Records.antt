@@ -1,6 +1,6 @@
 -- Records that are read were written so. Assumes nothing.
 use Rattle.std.proofs.Common.{◌≡◌, ℕ, zero, suc, ◌+◌, ◌*◌, ◌/◌, ◌%◌, ◌<◌, ◌≤◌, eqb, ltb, leb, List, [], ◌∷◌, ◌++◌, length, get_or, take, sym, refl, ap, ◌∙◌, subst, arith}
-use Rattle.std.specs.List.{AllByRecursion as All}
+use Rattle.std.specs.List.{AllByRecursion}
 use Rattle.std.proofs.ByRecursion.{All-get_or, All-take}
 use Rattle.std.proofs.lemmas.Bool.{ltb-true, leb-true, eqb-true}
 use Rattle.values.specs.Types.{code}
@@ -16,12 +16,12 @@ use Rattle.syntax.specs.Written.{written, Bounded, HasType, joined, payload, inn
 use Rattle.syntax.proofs.Stand.{Stands, nothing, byte, join, as_byte, front_long, widened, Good, good_then, good_if, good_weaker, good_named, coded}
 use Rattle.syntax.proofs.Sound.{TAt, EAt, sound_type, sound_value, sound}
 
-module _ (bs : List ℕ) (small : All (λ b. b < 256) bs) where
+module _ (bs : List ℕ) (small : AllByRecursion (λ b. b < 256) bs) where
   abbrev XAt : {X : Type 0} → (X → List ℕ) → (X → Type 0) → ℕ → X → ℕ → Type 0
   XAt w L at x n = Stands bs at (w x) n × (n ≤ length bs) × L x
 
   abbrev MAt : {X : Type 0} → (X → List ℕ) → (X → Type 0) → ℕ → ℕ → List X → ℕ → Type 0
-  MAt w L k at xs n = Stands bs at (joined w xs) n × (n ≤ length bs) × (length xs ≡ k) × All L xs
+  MAt w L k at xs n = Stands bs at (joined w xs) n × (n ≤ length bs) × (length xs ≡ k) × AllByRecursion L xs
 
   sound_many : {X : Type 0} (w : X → List ℕ) (L : X → Type 0) (one : ℕ → Found X) → ((m : ℕ) → Good (XAt w L m) (one m)) → (k at : ℕ) → at ≤ length bs → Good (MAt w L k at) (many one k at)
   unfolding many
@@ -72,7 +72,7 @@ module _ (bs : List ℕ) (small : All (λ b. b < 256) bs) where
       good_then (BAt k at) (WAt k at) (body k bs at) _ (sound_body k at) (λ r n p.
       good_if (WAt k at) (eqb n (length bs)) _ _ (λ same. (p.0, eqb-true n (length bs) same, p.2, p.3)))
 
-module _ (bs : List ℕ) (small : All (λ b. b < 256) bs) where
+module _ (bs : List ℕ) (small : AllByRecursion (λ b. b < 256) bs) where
   abbrev FAt : ℕ → Kind → ℕ → Type 0
   FAt at k end = (at + 2 < end) × (end ≤ length bs) × (get_or bs (at + 2) 0 ≡ kind_code k) × (end ≡ at + 2 + (get_or bs at 0 * 256 + get_or bs (at + 1) 0))
 

@@ -1,6 +1,6 @@
 -- An expression that is read was written so. Assumes nothing.
 use Rattle.std.proofs.Common.{◌≡◌, ℕ, zero, suc, ◌+◌, ◌<◌, ◌≤◌, eqb, ltb, leb, List, [], ◌∷◌, length, get_or, take, drop, Some, None, Ok, Err, Option, sym, refl, subst, arith}
-use Rattle.std.specs.List.{AllByRecursion as All}
+use Rattle.std.specs.List.{AllByRecursion}
 use Rattle.std.proofs.ByRecursion.{All-take, All-drop}
 use Rattle.std.proofs.lemmas.Bool.{ltb-true, ltb-false, leb-true, eqb-false}
 use Rattle.values.specs.declared.types.«Type».{«Type» as Ty}
@@ -41,7 +41,7 @@ Light (node.Cast t) = Unit {0}
 Light (node.Binary o) = Unit {0}
 Light node.Choose = Unit {0}
 
-module _ (bs : List ℕ) (small : All (λ b. b < 256) bs) where
+module _ (bs : List ℕ) (small : AllByRecursion (λ b. b < 256) bs) where
   abbrev pub TAt : ℕ → Ty → ℕ → Type 0
   TAt at t n = Stands bs at (code t ∷ []) n × (n ≤ length bs)
 

@@ -1,6 +1,6 @@
 -- A table that is read was written so. Assumes nothing.
 use Rattle.std.proofs.Common.{◌≡◌, ℕ, zero, suc, ◌+◌, ◌<◌, ◌≤◌, cond, eqb, ltb, leb, List, [], ◌∷◌, ◌++◌, length, get_or, drop, Ok, Err, Result, sym, refl, ap, ◌∙◌, subst, arith}
-use Rattle.std.specs.List.{AllByRecursion as All}
+use Rattle.std.specs.List.{AllByRecursion}
 use Rattle.std.proofs.lemmas.List.{append_assoc, append-nil, drop_all, drop_more}
 use Rattle.std.proofs.ByRecursion.{All-append}
 use Rattle.std.proofs.lemmas.Bool.{ltb-false, leb-true, eqb-true, cond_both}
@@ -60,9 +60,9 @@ none Channel = omega arith
 none Stream = omega arith
 none Rule = omega arith
 
-module _ (bs : List ℕ) (small : All (λ b. b < 256) bs) where
+module _ (bs : List ℕ) (small : AllByRecursion (λ b. b < 256) bs) where
   abbrev SoFar : List Entry → ℕ → Type 0
-  SoFar rs at = Stands bs 1 (write rs) at × (at ≤ length bs) × All Small rs × ((k : Kind) → count k rs ≤ limit k)
+  SoFar rs at = Stands bs 1 (write rs) at × (at ≤ length bs) × AllByRecursion Small rs × ((k : Kind) → count k rs ≤ limit k)
 
   abbrev AllRead : List Entry → Type 0
   AllRead rs = SoFar rs (length bs)
@@ -80,7 +80,7 @@ module _ (bs : List ℕ) (small : All (λ b. b < 256) bs) where
       (λ b. let g = h.1 in let q = ltb-false at (length bs) b in let e : at ≡ length bs = omega (arith, g, q) in subst (SoFar before) e h)
 
   abbrev pub Kept : List Entry → Type 0
-  Kept rs = (bs ≡ 1 ∷ write rs) × (length bs ≤ 8192) × All Small rs × ((k : Kind) → count k rs ≤ limit k)
+  Kept rs = (bs ≡ 1 ∷ write rs) × (length bs ≤ 8192) × AllByRecursion Small rs × ((k : Kind) → count k rs ≤ limit k)
 
   whole : (rs : List Entry) → get_or bs 0 0 ≡ 1 → 0 < length bs → AllRead rs → bs ≡ 1 ∷ write rs
   whole rs v some h =

@@ -1,6 +1,6 @@
 -- How a table is written, the limits that it keeps, and the law that reading accepts exactly what is written so. Assumes nothing.
 use Rattle.std.specs.Prelude.{◌≡◌, ℕ, zero, suc, ◌+◌, ◌/◌, ◌%◌, ◌≤◌, List, [], ◌∷◌, ◌++◌, length, Ok}
-use Rattle.std.specs.List.{AllByRecursion as All}
+use Rattle.std.specs.List.{AllByRecursion}
 use Rattle.values.specs.declared.types.«Type».{«Type» as Ty}
 use Rattle.values.specs.declared.value.Value.{Value}
 use Rattle.values.specs.Types.{code}
@@ -64,8 +64,8 @@ HasType t v = (type_of v ≡ t) × Proper v
 -- the limits of a record
 abbrev pub Small : Entry → Type 0
 Small (entry.channel t) = Unit {0}
-Small (entry.stream t vs e) = (length vs ≤ 64) × All (HasType t) vs × Bounded 12 e
-Small (entry.rule g es) = (length es ≤ 4) × Bounded 12 g × All (Bounded 12) es
+Small (entry.stream t vs e) = (length vs ≤ 64) × AllByRecursion (HasType t) vs × Bounded 12 e
+Small (entry.rule g es) = (length es ≤ 4) × Bounded 12 g × AllByRecursion (Bounded 12) es
 
 -- the expression with the places that its nodes have where it stands at a place
 abbrev pub placed : ℕ → Exp → Exp
@@ -97,7 +97,7 @@ placed_entry at r = placed_payload (at + 3) r
 pub record Written (bytes : List ℕ) (rs : List Entry) : Type 0 where
   pub whole : bytes ≡ 1 ∷ write rs
   pub size : length bytes ≤ 8192
-  pub small : All Small rs
+  pub small : AllByRecursion Small rs
   pub few : (k : Kind) → count k rs ≤ limit k
   pub places : each placed_entry write_entry 1 rs ≡ rs
 

@@ -3,7 +3,7 @@ use Rattle.std.proofs.Common.{◌≡◌, ℕ, zero, suc, ◌+◌, ◌-◌, ◌*�
 use mir.Syntax.{Width}
 use mir.Val.{sel, bits, hbits}
 use Rattle.std.specs.Int.{int_rem_euclid}
-use Rattle.std.specs.List.{AllByRecursion as All}
+use Rattle.std.specs.List.{AllByRecursion}
 use Rattle.std.specs.Int.Digits.{number_from_digits, number_from_digits_after}
 use Rattle.std.proofs.lemmas.Int.Digits.{number_push}
 use Rattle.std.proofs.lemmas.List.{append_assoc, append-nil, length-append}
@@ -19,7 +19,7 @@ use Rattle.values.proofs.Wrapping.{sized, wrap_same, low_type, kept, wraps}
 use Rattle.values.proofs.Decoding.{decoded_some}
 
 -- bytes are the digits of their number
-digits : (ws : List ℕ) (k a : ℕ) → All (λ b. b < 256) ws → big_endian (length ws + k) (number_from_digits_after 256 a ws) ≡ big_endian k a ++ ws
+digits : (ws : List ℕ) (k a : ℕ) → AllByRecursion (λ b. b < 256) ws → big_endian (length ws + k) (number_from_digits_after 256 a ws) ≡ big_endian k a ++ ws
 digits [] k a h = let z : 0 + k ≡ k = omega arith in ap (λ n. big_endian n a) z ∙ sym (append-nil (big_endian k a))
 digits (w ∷ ws) k a h =
     let s : length (w ∷ ws) + k ≡ length ws + suc k = omega arith in
@@ -69,7 +69,7 @@ low_back type.Int32 n h = signed_back w32 n (lit< tt) h
 low_back type.Int64 n h = signed_back w64 n (lit< tt) h
 
 -- what is decoded is written by the bytes that it came from
-back : (t : Ty) (ws : List ℕ) → length ws ≡ size t → All (λ b. b < 256) ws → number_from_digits 256 ws < 2 ^ width t → encoded (wrap t (pos (number_from_digits 256 ws))) ≡ ws
+back : (t : Ty) (ws : List ℕ) → length ws ≡ size t → AllByRecursion (λ b. b < 256) ws → number_from_digits 256 ws < 2 ^ width t → encoded (wrap t (pos (number_from_digits 256 ws))) ≡ ws
 back t ws l u h =
     let n = number_from_digits 256 ws in
     let z : length ws ≡ length ws + 0 = omega arith in
@@ -120,7 +120,7 @@ decoded_encoded v p =
     ∙ ap (λ n. Some (wrap t (pos n))) e
     ∙ ap Some (wrap_same t _ (num v) (narrower (2 ^ (8 * size t)) s.times (2 ^ width t) s.whole (rest_same (num v) (2 ^ (8 * size t)) s.some)) ∙ kept v p)
 
-writes : (t : Ty) (ws : List ℕ) (v : Value) → All (λ b. b < 256) ws → decoded t ws ≡ Some v → Writes t ws v
+writes : (t : Ty) (ws : List ℕ) (v : Value) → AllByRecursion (λ b. b < 256) ws → decoded t ws ≡ Some v → Writes t ws v
 writes t ws v u =
     cond_both (eqb (length ws) (size t) && ltb (number_from_digits 256 ws) (2 ^ width t)) (Some (wrap t (pos (number_from_digits 256 ws)))) None (λ o. o ≡ Some v → Writes t ws v)
     (λ b e.
@@ -134,6 +134,6 @@ writes t ws v u =
     }))
     (λ b e. absurd (let z : ◌≡◌ {A = ℕ} 0 1 = cc in omega arith))
 
-pub decodes : (t : Ty) (ws : List ℕ) → All (λ b. b < 256) ws → Decodes t ws (decoded t ws)
+pub decodes : (t : Ty) (ws : List ℕ) → AllByRecursion (λ b. b < 256) ws → Decodes t ws (decoded t ws)
 decodes t ws u v =
     (writes t ws v u, λ w. subst (λ s. decoded s ws ≡ Some v) w.typed (ap (decoded (type_of v)) w.written ∙ decoded_encoded v w.proper))

@@ -1,10 +1,10 @@
 -- Walks put together and cut, and what leads say of one reference. Assumes nothing.
 use Rattle.std.proofs.Common.{◌≡◌, ℕ, zero, suc, ◌+◌, ◌≤◌, List, [], ◌∷◌, ◌++◌, length, ℤ, ◌+ℤ◌, ◌≤ℤ◌, sym, refl, ap, subst, inl, inr, suc-add, zero-add, arith}
-use Rattle.std.specs.List.{AllByRecursion as All}
+use Rattle.std.specs.List.{AllByRecursion}
 use Rattle.std.proofs.lemmas.Int.{ints}
 use Rattle.walks.specs.Walks.{Graph, In, Walk, weigh, at, Lead}
 
-pub all_in : {R : Type 0} (P : R → Type 0) (g : List R) (r : R) → All P g → In r g → P r
+pub all_in : {R : Type 0} (P : R → Type 0) (g : List R) (r : R) → AllByRecursion P g → In r g → P r
 all_in P [] r all m = absurd m
 all_in P (x ∷ g) r all (inl e) = subst P e all.0
 all_in P (x ∷ g) r all (inr m) = all_in P g r all.1 m

@@ -1,6 +1,6 @@
 -- Edges within the limits are bounded, and only streams are read and read too. Assumes nothing.
 use Rattle.std.proofs.Common.{ℕ, List, arith}
-use Rattle.std.specs.List.{AllByRecursion as All}
+use Rattle.std.specs.List.{AllByRecursion}
 use Rattle.std.proofs.ByRecursion.{All-weaker}
 use Rattle.walks.specs.declared.edge.Edge.{Edge}
 use Rattle.walks.specs.Walks.{In}
@@ -15,6 +15,6 @@ module _ (channels streams : ℕ) (es : List Edge) (fits : Fits channels streams
   pub through : Through (graph es) channels streams
   through r s m n e = (omega (arith, e, (fit_in s n).reads), (fit_in r m).read)
 
-  pub all_bounded : All Bounded es
+  pub all_bounded : AllByRecursion Bounded es
   all_bounded = All-weaker (Fit channels streams) Bounded
       (λ e f. record { reader = f.reader; read = omega (arith, f.read, fits.few_channels, fits.few_streams); drop = f.drop; opening = f.opening }) es fits.edges

@@ -1,6 +1,6 @@
 -- The graph of edges between numbered nodes: the channels from 0, then the streams, then the rules. Assumes nothing.
 use Rattle.std.specs.Prelude.{ℕ, ◌+◌, ◌<◌, ◌≤◌, List, ℤ, pos, ◌-ℤ◌}
-use Rattle.std.specs.List.{AllByRecursion as All}
+use Rattle.std.specs.List.{AllByRecursion}
 use Rattle.walks.specs.declared.edge.SheetEntry.{SheetEntry}
 use Rattle.walks.specs.declared.edge.Edge.{Edge}
 use Rattle.walks.specs.Walks.{Graph}
@@ -27,7 +27,7 @@ pub record Fit (channels streams : ℕ) (e : Edge) : Type 0 where
 pub record Fits (channels streams : ℕ) (es : List Edge) : Type 0 where
   pub few_channels : channels ≤ 16
   pub few_streams : streams ≤ 32
-  pub edges : All (Fit channels streams) es
+  pub edges : AllByRecursion (Fit channels streams) es
 
 -- an edge between two of 64 nodes, of a small weight
 pub record Bounded (e : Edge) : Type 0 where

@@ -1,5 +1,5 @@
 use Rattle.std.proofs.Common.{◌≡◌, List, map, IfOk, vec_items, sym, ap, ◌∙◌, subst}
-use Rattle.std.specs.List.{AllByRecursion as All}
+use Rattle.std.specs.List.{AllByRecursion}
 use Rattle.references.specs.declared.reference.Reference.{Reference}
 use Rattle.syntax.specs.Entries.{entry_of}
 use Rattle.schedule.specs.Edges.{Near, edge_by}
@@ -9,7 +9,7 @@ use Rattle.schedule.proofs.edges.list_edges.Goals as goal
 pub make_edges-requires : goal.make_edges-requires
 make_edges-requires c =
     let rs = map entry_of c.args.records.now in
-    subst (λ (l : List Reference). All (Near c.new.result.numbering) l) (sym (c.deref.ensures.value ∙ c.in_ok-references.ensures))
+    subst (λ (l : List Reference). AllByRecursion (Near c.new.result.numbering) l) (sym (c.deref.ensures.value ∙ c.in_ok-references.ensures))
     (all_near rs c.requires c.new.result.numbering c.new.ensures.numbering)
 
 pub returns : goal.returns

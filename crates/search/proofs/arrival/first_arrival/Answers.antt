@@ -1,5 +1,5 @@
 use Rattle.std.proofs.Common.{◌≡◌, ◌+◌, sym, refl, subst, arith}
-use Rattle.std.specs.List.{AllByRecursion as All}
+use Rattle.std.specs.List.{AllByRecursion}
 use Rattle.search.specs.Rows.{Low, layer}
 use Rattle.search.proofs.Layers.{layer_low, row_more}
 use Rattle.search.proofs.Searches.{missed_more, first_at}
@@ -12,7 +12,7 @@ loop-k-init c = (refl, λ k l h. absurd (omega arith))
 pub step-row-requires : goal.step-row-requires
 step-row-requires c = record {
   bounded = c.requires.bounded;
-  low = subst (All (Low 8192)) (sym c.loop-k.invariant.0) (layer_low c.args.edges.now c.requires.bounded c.args.start c.requires.low c.loop-k.k (omega (arith, c.requires.few)));
+  low = subst (AllByRecursion (Low 8192)) (sym c.loop-k.invariant.0) (layer_low c.args.edges.now c.requires.bounded c.args.start c.requires.low c.loop-k.k (omega (arith, c.requires.few)));
 }
 
 pub returns-in-Some : goal.returns-in-Some

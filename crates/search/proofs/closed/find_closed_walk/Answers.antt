@@ -1,5 +1,5 @@
 use Rattle.std.proofs.Common.{◌≡◌, ℕ, true, List, get_or, None, Option, sym, subst, arith, rules}
-use Rattle.std.specs.List.{AllByRecursion as All}
+use Rattle.std.specs.List.{AllByRecursion}
 use Rattle.walks.proofs.Through.{all_bounded}
 use Rattle.search.specs.declared.arrival.Arrival.{Arrival}
 use Rattle.search.specs.Rows.{Low, reaches, alone, layer}
@@ -26,7 +26,7 @@ list_walk-requires c =
     let few : Fewest c.args.edges.now c.args.channels c.args.streams f = c.in_ok-found.ensures in
     record {
       bounded = all_bounded c.args.channels c.args.streams c.args.edges.now c.requires.fits;
-      low = subst (All (Low 0)) (sym c.start_at.ensures) (low_alone f.node);
+      low = subst (AllByRecursion (Low 0)) (sym c.start_at.ensures) (low_alone f.node);
       few = omega (arith, few.first.within, c.requires.fits.few_streams);
       space = omega (arith, few.first.within, c.requires.fits.few_streams, c.requires.space);
       node = omega (arith, few.below, c.requires.fits.few_channels, c.requires.fits.few_streams);

@@ -1,5 +1,5 @@
 use Rattle.std.proofs.Common.{◌-◌, Some, sym, ap, subst, arith}
-use Rattle.std.specs.List.{AllByRecursion as All}
+use Rattle.std.specs.List.{AllByRecursion}
 use Rattle.search.specs.declared.arrival.Target.{Target}
 use Rattle.search.specs.Rows.{Low}
 use Rattle.search.specs.Arrivals.{Missed, First}
@@ -11,7 +11,7 @@ use Rattle.search.proofs.closed.least_closed.Goals as goal
 pub first_arrival-requires : goal.first_arrival-requires
 first_arrival-requires c = record {
   bounded = c.requires.bounded;
-  low = subst (All (Low 0)) (sym c.start_at.ensures) (low_alone c.loop-node.node);
+  low = subst (AllByRecursion (Low 0)) (sym c.start_at.ensures) (low_alone c.loop-node.node);
   few = omega (arith, c.min-most.ensures, c.loop-node.invariant.within);
   nodes = omega (arith, ap (λ (t : Target). t.end) c.node.ensures);
   light = omega (arith, ap (λ (t : Target). t.over) c.node.ensures);

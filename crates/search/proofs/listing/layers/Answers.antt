@@ -1,5 +1,5 @@
 use Rattle.std.proofs.Common.{◌+◌, [], get_or, replicate, sym, refl, ◌∙◌, subst, arith}
-use Rattle.std.specs.List.{AllByRecursion as All}
+use Rattle.std.specs.List.{AllByRecursion}
 use Rattle.std.proofs.lemmas.List.{length-set}
 use Rattle.search.specs.Rows.{Low}
 use Rattle.search.proofs.Layers.{layer_low, row_more, layers_none, layers_more}
@@ -11,7 +11,7 @@ loop-k-init c = (refl, layers_none c.args.edges.now (replicate 34 c.args.start))
 pub step-next-requires : goal.step-next-requires
 step-next-requires c = record {
   bounded = c.requires.bounded;
-  low = subst (All (Low 8192)) (sym (c.loop-k.invariant.1 c.loop-k.k (omega arith)))
+  low = subst (AllByRecursion (Low 8192)) (sym (c.loop-k.invariant.1 c.loop-k.k (omega arith)))
       (layer_low c.args.edges.now c.requires.bounded c.args.start c.requires.low c.loop-k.k (omega (arith, c.requires.few)));
 }
 

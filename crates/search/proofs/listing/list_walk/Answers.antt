@@ -1,5 +1,5 @@
 use Rattle.std.proofs.Common.{◌-◌, sym, subst, arith}
-use Rattle.std.specs.List.{AllByRecursion as All}
+use Rattle.std.specs.List.{AllByRecursion}
 use Rattle.std.proofs.ByRecursion.{All-get_or}
 use Rattle.walks.specs.Edges.{Bounded, no_edge}
 use Rattle.search.specs.Rows.{Low}
@@ -22,7 +22,7 @@ bounds-rows-k-in-loop-k c = omega (arith, c.loop-k.invariant.long, c.requires.fe
 pub find_into-requires : goal.find_into-requires
 find_into-requires c = record {
   bounded = c.requires.bounded;
-  low = subst (All (Low 8192)) (sym (c.layers-rows.ensures (c.loop-k.k - 1) (omega (arith, c.loop-k.invariant.long))))
+  low = subst (AllByRecursion (Low 8192)) (sym (c.layers-rows.ensures (c.loop-k.k - 1) (omega (arith, c.loop-k.invariant.long))))
       (layer_low c.args.edges.now c.requires.bounded c.args.start c.requires.low (c.loop-k.k - 1) (omega (arith, c.loop-k.invariant.long, c.requires.few)));
 }
 
