@@ -60,7 +60,7 @@ module _ (k : Kind) (w m n : ℕ) (r : Entry) (rs : List Entry) (one : cond (eqb
   moved None h = omega arith
   moved (Some j) s =
       let next = add-one j in
-      let in-it = s.inside in
+      let in_it = s.inside in
       let count_is = s.before in
       record {
         inside = omega arith;

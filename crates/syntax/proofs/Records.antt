@@ -111,9 +111,9 @@ module _ (bs : List ℕ) (small : AllByRecursion (λ b. b < 256) bs) where
   sound_entry before at =
       good_then (FAt at) (RAt before at) (frame bs at) _ (sound_frame at) (λ k end f.
       let part = take end bs in
-      let byte-part = All-take (λ b. b < 256) end bs small in
+      let byte_part = All-take (λ b. b < 256) end bs small in
       good_if (RAt before at) (ltb (count k before) (limit k)) _ _ (λ room.
-      good_weaker (WAt part byte-part k (at + 3)) (RAt before at) (filled k part (at + 3)) (sound_filled part byte-part k (at + 3)) (λ r n p.
+      good_weaker (WAt part byte_part k (at + 3)) (RAt before at) (filled k part (at + 3)) (sound_filled part byte_part k (at + 3)) (λ r n p.
       let z : n ≡ end = p.1 ∙ front_long bs end f.1 in
       let inside = widened bs end f.1 (omega (arith, z)) p.0 in
       let h0 = f.0 in (
