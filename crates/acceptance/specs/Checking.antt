@@ -1,5 +1,5 @@
 -- What the check answers of a table's bytes and a sheet, and what it leaves behind. Assumes nothing.
-use Rattle.std.specs.Prelude.{◌≡◌, ℕ, ◌<◌, ◌≤◌, ◌⊎◌, List, [], ◌∷◌, length, pos, ◌≤ℤ◌, Ok, Err, vec_items, Result, Vec, slice_index_or}
+use Rattle.std.specs.Prelude.{◌≡◌, ℕ, ◌<◌, ◌≤◌, ◌⊎◌, List, [], ◌∷◌, length, pos, ◌≤ℤ◌, Ok, Err, vec_items, Result, Vec, slice_index}
 use Rattle.std.specs.declared.alloc.Global.{Global}
 use Rattle.faults.specs.declared.cause.Cause.{Cause}
 use Rattle.faults.specs.declared.cause.Cause.TheVariants.{ShortSheet}
@@ -51,7 +51,7 @@ Refuses bytes sheet sheet' c =
 -- memory may fail only where sheet, version and size have passed
 pub record Starved (bytes : List ℕ) (sheet : List SheetEntry) : Type 0 where
   pub space : 33 ≤ length sheet
-  pub version : slice_index_or bytes 0 0 ≡ 1
+  pub version : slice_index bytes 0 ≡ 1
   pub size : length bytes ≤ 8192
 
 -- what the check answers, and what it leaves of the table and the sheet: a refusal keeps the table, an acceptance the sheet

@@ -21,11 +21,11 @@ truth (Int32 z) = false
 truth (Int64 z) = false
 
 -- two integers are one
-abbrev pub eqZ : ℤ → ℤ → Truth
-eqZ (pos a) (pos b) = a == b
-eqZ (pos a) (negsuc b) = false
-eqZ (negsuc a) (pos b) = false
-eqZ (negsuc a) (negsuc b) = a == b
+abbrev pub eq_z : ℤ → ℤ → Truth
+eq_z (pos a) (pos b) = a == b
+eq_z (pos a) (negsuc b) = false
+eq_z (negsuc a) (pos b) = false
+eq_z (negsuc a) (negsuc b) = a == b
 
 -- an operation on integers, its result wrapped into the first operand's type
 abbrev pub on_numbers : (ℤ → ℤ → ℤ) → Value → Value → Value
@@ -43,7 +43,7 @@ binary Subtract a b = on_numbers ◌-ℤ◌ a b
 binary Multiply a b = on_numbers ◌*ℤ◌ a b
 binary Quotient a b = on_numbers int_div a b
 binary Remainder a b = on_numbers int_rem a b
-binary Equal a b = Bool (eqZ (num a) (num b))
+binary Equal a b = Bool (eq_z (num a) (num b))
 binary Less a b = Bool (int_lt (num a) (num b))
 binary AtMost a b = Bool (int_le (num a) (num b))
 

@@ -2,7 +2,7 @@
 // type; for two types the same is worked out on integers of 128 bits, so that no operator asks anything of its operands.
 ghost use Rattle.std.specs.Prelude.{◌≡◌, ◌+ℤ◌, ◌-ℤ◌, ◌*ℤ◌, neg_ℤ, int_div, int_le, int_lt, int_rem};
 ghost use Rattle.values.specs.Values.{type_of, num, wrap};
-ghost use Rattle.operators.specs.Operators.{eqZ};
+ghost use Rattle.operators.specs.Operators.{eq_z};
 
 use values::types::Type;
 use values::value::Value;
@@ -115,7 +115,7 @@ pub(crate) fn negate(a: Value) -> Value
 }
 
 pub(crate) fn equal(a: Value, b: Value) -> bool
-    ensures { result ≡ eqZ (num a) (num b) }
+    ensures { result ≡ eq_z (num a) (num b) }
 {
     ordered!(a, b, ==)
 }

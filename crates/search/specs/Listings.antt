@@ -1,5 +1,5 @@
 -- A walk read off the rows from its end. Assumes nothing.
-use Rattle.std.specs.Prelude.{◌≡◌, ℕ, ◌*◌, ◌<◌, ◌≤◌, true, false, List, [], ◌++◌, map, length, get_or, drop, pos, ◌+ℤ◌, Some, None, Option, slice_index_or}
+use Rattle.std.specs.Prelude.{◌≡◌, ℕ, ◌*◌, ◌<◌, ◌≤◌, true, false, List, [], ◌++◌, map, length, drop, pos, ◌+ℤ◌, Some, None, Option, slice_index_or}
 use Rattle.walks.specs.declared.edge.Edge.{Edge}
 use Rattle.walks.specs.declared.edge.SheetEntry.{SheetEntry}
 use Rattle.walks.specs.Walks.{Walk, weigh}
@@ -22,9 +22,9 @@ pub record Listed (es : List Edge) (s : List (Option ℕ)) (f : Arrival) (old ne
   pub start : ℕ
   pub walk : List Edge
   pub goes : Walk (graph es) start walk f.node
-  pub begins : get_or s start None ≡ Some 0
+  pub begins : slice_index_or s start None ≡ Some 0
   pub long : length walk ≡ f.length
   pub whole : ℕ
-  pub shown : get_or (layer es s f.length) f.node None ≡ Some whole
+  pub shown : slice_index_or (layer es s f.length) f.node None ≡ Some whole
   pub heavy : pos whole ≡ weigh (graph es) walk +ℤ pos (64 * f.length)
   pub listed : new ≡ map told walk ++ drop f.length old

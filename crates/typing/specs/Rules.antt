@@ -10,7 +10,7 @@ use Rattle.operators.specs.declared.operator.Unary.{Unary}
 use Rattle.operators.specs.declared.operator.Unary.TheVariants.{Not, Negate}
 use Rattle.operators.specs.declared.operator.Binary.{Binary}
 use Rattle.operators.specs.declared.operator.Binary.TheVariants.{And, Or, Add, Subtract, Multiply, Quotient, Remainder, Equal, Less, AtMost}
-use Rattle.operators.specs.Operators.{eqZ}
+use Rattle.operators.specs.Operators.{eq_z}
 use Rattle.syntax.specs.Trees.{Exp, constant, channel, stream, unary, cast, binary, choose}
 
 -- two types are one
@@ -68,7 +68,7 @@ divides AtMost = false
 
 -- a divisor is a constant other than zero
 abbrev pub divisor : Exp → Truth
-divisor (constant at v) = not (eqZ (num v) (pos 0))
+divisor (constant at v) = not (eq_z (num v) (pos 0))
 divisor (channel at i) = false
 divisor (stream at i d) = false
 divisor (unary at o e) = false

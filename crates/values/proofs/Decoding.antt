@@ -32,7 +32,7 @@ filled Int16 no_flag = refl
 filled Int32 no_flag = refl
 filled Int64 no_flag = refl
 
--- so a number of as many bytes fits the type
+-- so a number that fits in as many bytes fits the type
 pub fitting : (t : Ty) (n l : ℕ) → (t ≡ Bool → ⊥) → l ≡ size t → n < 2 ^ (8 * l) → n < 2 ^ width t
 fitting t n l no_flag s h = subst (λ w. n < 2 ^ w) (ap (λ k. 8 * k) s ∙ filled t no_flag) h
 

@@ -1,7 +1,6 @@
 -- Values, their numbers, and an integer wrapped into a type's range. Assumes nothing.
 use Rattle.std.specs.Prelude.{◌≡◌, ℕ, ◌*◌, ◌^◌, cond, ℤ, pos, ◌+ℤ◌, ◌==◌, unsigned_abs}
-use Rattle.std.proofs.Common.{to_z}
-use Rattle.std.specs.Int.{int_rem_euclid, w8, w16, w32, w64}
+use Rattle.std.specs.Int.{cast_signed, int_rem_euclid, w8, w16, w32, w64}
 use Rattle.values.specs.declared.types.«Type».{«Type» as Ty}
 use Rattle.values.specs.declared.types.«Type».TheVariants as type
 use Rattle.values.specs.declared.value.Value.{Value}
@@ -47,10 +46,10 @@ low type.Word8 n = Word8 n
 low type.Word16 n = Word16 n
 low type.Word32 n = Word32 n
 low type.Word64 n = Word64 n
-low type.Int8 n = Int8 (to_z w8 n)
-low type.Int16 n = Int16 (to_z w16 n)
-low type.Int32 n = Int32 (to_z w32 n)
-low type.Int64 n = Int64 (to_z w64 n)
+low type.Int8 n = Int8 (cast_signed w8 n)
+low type.Int16 n = Int16 (cast_signed w16 n)
+low type.Int32 n = Int32 (cast_signed w32 n)
+low type.Int64 n = Int64 (cast_signed w64 n)
 
 -- an integer wrapped into a type's range
 abbrev pub wrap : Ty → ℤ → Value

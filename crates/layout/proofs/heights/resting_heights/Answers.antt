@@ -40,5 +40,5 @@ loop-i-preserved c =
 pub returns : goal.returns
 returns c e =
     let all : c.loop-i.i ≡ 34 = omega arith in
-    let but-one : 33 ≡ c.loop-i.i - 1 = omega arith in
-    c.loop-i.invariant.1 (omega arith) (ap (heights c.args.edges.now) all ∙ heights_more c.args.edges.now 33 ∙ e ∙ ap (heights c.args.edges.now) but-one)
+    let but_one : 33 ≡ c.loop-i.i - 1 = omega arith in
+    c.loop-i.invariant.1 (omega arith) (ap (heights c.args.edges.now) all ∙ heights_more c.args.edges.now 33 ∙ e ∙ ap (heights c.args.edges.now) but_one)
