@@ -4,6 +4,7 @@ pub mod Answers
 pub mod Heads
 pub mod Parsing
 pub mod Entries
+pub mod Counting
 pub mod Reading
 pub mod Written
 pub mod Passing

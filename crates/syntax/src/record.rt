@@ -1,13 +1,14 @@
 // The records of a table.
-ghost use Rattle.std.specs.Prelude.{◌≡◌, map};
+ghost use Rattle.std.specs.Prelude.{◌≡◌, ◌==◌, map};
 ghost use Rattle.syntax.specs.Entries.{entry_of, kind_of, kind_coded, kind_code, limit, count};
+ghost use Rattle.syntax.specs.Counting.{counts_of};
 
 use crate::tree::Expr;
 use values::types::Type;
 use values::value::Value;
 
 // What a record declares.
-#[derive(Clone, Copy)]
+#[derive(Clone, Copy, Debug, PartialEq, Eq)]
 pub enum Kind {
     Channel = 1,
     Stream = 2,
@@ -60,12 +61,6 @@ impl Kind {
             Kind::Rule => 16,
         }
     }
-
-    fn code(self) -> u8
-        ensures { result ≡ kind_code self }
-    {
-        self as u8
-    }
 }
 
 impl Record {
@@ -79,17 +74,39 @@ impl Record {
             Record::Rule(_) => Kind::Rule,
         }
     }
+
+    // Whether this record is of a kind.
+    pub fn is(&self, kind: Kind) -> bool
+        ensures { result ≡ (kind_code (kind_of (entry_of self.now)) == kind_code kind) }
+    {
+        self.kind() == kind
+    }
 }
 
 // How many of the records are of a kind.
 pub fn count(records: &[Record], kind: Kind) -> usize
     ensures { result ≡ count kind (map entry_of records.now) }
 {
-    let mut found = 0;
-    for r in records {
-        if r.kind().code() == kind.code() {
-            found += 1;
+    records.iter().filter(|r| r.is(kind)).count()
+}
+
+// How many records of each kind a table has.
+#[derive(Clone, Copy, Debug, PartialEq, Eq)]
+pub struct Counts {
+    pub channels: usize,
+    pub streams: usize,
+    pub rules: usize,
+}
+
+impl Counts {
+    // The counts of a table's records.
+    pub fn of(records: &[Record]) -> Counts
+        ensures { result ≡ counts_of (map entry_of records.now) }
+    {
+        Counts {
+            channels: count(records, Kind::Channel),
+            streams: count(records, Kind::Stream),
+            rules: count(records, Kind::Rule),
         }
     }
-    found
 }

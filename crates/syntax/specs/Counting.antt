@@ -1,0 +1,8 @@
+-- How many records of each kind a table has. Assumes nothing.
+use Rattle.std.specs.Prelude.{List}
+use Rattle.syntax.specs.declared.record.Counts.{Counts}
+use Rattle.syntax.specs.declared.record.Kind.TheVariants.{Channel, Stream, Rule}
+use Rattle.syntax.specs.Entries.{Entry, count}
+
+abbrev pub counts_of : List Entry → Counts
+counts_of rs = record { channels = count Channel rs; streams = count Stream rs; rules = count Rule rs }
