@@ -8,14 +8,14 @@ use crate::arithmetic::{
 use values::value::Value;
 
 // An operator with one operand.
-#[derive(Clone, Copy)]
+#[derive(Clone, Copy, Debug, PartialEq, Eq)]
 pub enum Unary {
     Not,
     Negate,
 }
 
 // An operator with two operands.
-#[derive(Clone, Copy)]
+#[derive(Clone, Copy, Debug, PartialEq, Eq)]
 pub enum Binary {
     And,
     Or,
@@ -33,10 +33,7 @@ pub enum Binary {
 pub fn is_true(value: Value) -> bool
     ensures { result ≡ truth value }
 {
-    match value {
-        Value::Bool(b) => b,
-        _ => false,
-    }
+    matches!(value, Value::Bool(true))
 }
 
 impl Unary {

@@ -1,3 +1,4 @@
 pub mod Types
+pub mod Codes
 pub mod Values
 pub mod Bytes

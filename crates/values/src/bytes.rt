@@ -14,7 +14,7 @@ fn big_endian(bytes: &[u8]) -> u64
 {
     let mut sum: u64 = 0;
     for b in bytes {
-        sum = sum * 256 + *b as u64;
+        sum = sum * 256 + u64::from(*b);
     }
     sum
 }

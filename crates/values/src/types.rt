@@ -1,9 +1,10 @@
 // The types of values.
 ghost use Rattle.std.specs.Prelude.{◌≡◌};
-ghost use Rattle.values.specs.Types.{type_coded, code, size, least, greatest, casts};
+ghost use Rattle.values.specs.Types.{code, size, least, greatest, casts};
+ghost use Rattle.values.specs.Codes.{type_or_unknown};
 
 // The types of values, with their codes.
-#[derive(Clone, Copy, PartialEq, Eq)]
+#[derive(Clone, Copy, Debug, PartialEq, Eq)]
 pub enum Type {
     Bool = 1,
     Word8 = 2,
@@ -16,46 +17,51 @@ pub enum Type {
     Int64 = 9,
 }
 
-impl Type {
-    // The type that a code names.
-    pub fn from_code(code: u8) -> Option<Type>
-        ensures { result ≡ type_coded code }
-    {
+// A code that names no type.
+#[derive(Clone, Copy, Debug, PartialEq, Eq)]
+pub struct UnknownType {
+    pub code: u8,
+}
+
+impl TryFrom<u8> for Type {
+    type Error = UnknownType;
+
+    ghost try_from_gives = { λ code r. r ≡ type_or_unknown code };
+
+    fn try_from(code: u8) -> Result<Type, UnknownType> {
         match code {
-            1 => Some(Type::Bool),
-            2 => Some(Type::Word8),
-            3 => Some(Type::Word16),
-            4 => Some(Type::Word32),
-            5 => Some(Type::Word64),
-            6 => Some(Type::Int8),
-            7 => Some(Type::Int16),
-            8 => Some(Type::Int32),
-            9 => Some(Type::Int64),
-            _ => None,
+            1 => Ok(Type::Bool),
+            2 => Ok(Type::Word8),
+            3 => Ok(Type::Word16),
+            4 => Ok(Type::Word32),
+            5 => Ok(Type::Word64),
+            6 => Ok(Type::Int8),
+            7 => Ok(Type::Int16),
+            8 => Ok(Type::Int32),
+            9 => Ok(Type::Int64),
+            _ => Err(UnknownType { code }),
         }
     }
+}
 
-    // The code that names this type.
-    pub fn code(self) -> u8
-        ensures { result ≡ code self }
-    {
-        self as u8
+impl From<Type> for u8 {
+    ghost from_gives = { λ ty n. n ≡ code ty };
+
+    fn from(ty: Type) -> u8 {
+        ty as u8
     }
+}
 
+impl Type {
     // How many bytes a value takes.
     pub fn size(self) -> usize
         ensures { result ≡ size self }
     {
         match self {
-            Type::Bool => 1,
-            Type::Word8 => 1,
-            Type::Word16 => 2,
-            Type::Word32 => 4,
-            Type::Word64 => 8,
-            Type::Int8 => 1,
-            Type::Int16 => 2,
-            Type::Int32 => 4,
-            Type::Int64 => 8,
+            Type::Bool | Type::Word8 | Type::Int8 => 1,
+            Type::Word16 | Type::Int16 => 2,
+            Type::Word32 | Type::Int32 => 4,
+            Type::Word64 | Type::Int64 => 8,
         }
     }
 
@@ -64,15 +70,11 @@ impl Type {
         ensures { result ≡ least self }
     {
         match self {
-            Type::Bool => 0,
-            Type::Word8 => 0,
-            Type::Word16 => 0,
-            Type::Word32 => 0,
-            Type::Word64 => 0,
-            Type::Int8 => i8::MIN as i128,
-            Type::Int16 => i16::MIN as i128,
-            Type::Int32 => i32::MIN as i128,
-            Type::Int64 => i64::MIN as i128,
+            Type::Bool | Type::Word8 | Type::Word16 | Type::Word32 | Type::Word64 => 0,
+            Type::Int8 => i128::from(i8::MIN),
+            Type::Int16 => i128::from(i16::MIN),
+            Type::Int32 => i128::from(i32::MIN),
+            Type::Int64 => i128::from(i64::MIN),
         }
     }
 
@@ -82,14 +84,14 @@ impl Type {
     {
         match self {
             Type::Bool => 1,
-            Type::Word8 => u8::MAX as i128,
-            Type::Word16 => u16::MAX as i128,
-            Type::Word32 => u32::MAX as i128,
-            Type::Word64 => u64::MAX as i128,
-            Type::Int8 => i8::MAX as i128,
-            Type::Int16 => i16::MAX as i128,
-            Type::Int32 => i32::MAX as i128,
-            Type::Int64 => i64::MAX as i128,
+            Type::Word8 => i128::from(u8::MAX),
+            Type::Word16 => i128::from(u16::MAX),
+            Type::Word32 => i128::from(u32::MAX),
+            Type::Word64 => i128::from(u64::MAX),
+            Type::Int8 => i128::from(i8::MAX),
+            Type::Int16 => i128::from(i16::MAX),
+            Type::Int32 => i128::from(i32::MAX),
+            Type::Int64 => i128::from(i64::MAX),
         }
     }
 

@@ -6,7 +6,7 @@ ghost use Rattle.values.specs.Values.{type_of, num, wrap, word, Proper, Wraps};
 use crate::types::Type;
 
 // A value, with its type.
-#[derive(Clone, Copy, PartialEq, Eq)]
+#[derive(Clone, Copy, Debug, PartialEq, Eq)]
 pub enum Value {
     Bool(bool),
     Word8(u8),
@@ -62,15 +62,15 @@ impl Value {
         ensures proper { Proper self }
     {
         match self {
-            Value::Bool(b) => i128::from(b as u8),
-            Value::Word8(n) => n as i128,
-            Value::Word16(n) => n as i128,
-            Value::Word32(n) => n as i128,
-            Value::Word64(n) => n as i128,
-            Value::Int8(n) => n as i128,
-            Value::Int16(n) => n as i128,
-            Value::Int32(n) => n as i128,
-            Value::Int64(n) => n as i128,
+            Value::Bool(b) => i128::from(b),
+            Value::Word8(n) => i128::from(n),
+            Value::Word16(n) => i128::from(n),
+            Value::Word32(n) => i128::from(n),
+            Value::Word64(n) => i128::from(n),
+            Value::Int8(n) => i128::from(n),
+            Value::Int16(n) => i128::from(n),
+            Value::Int32(n) => i128::from(n),
+            Value::Int64(n) => i128::from(n),
         }
     }
 
@@ -80,14 +80,14 @@ impl Value {
         ensures back { wrap (type_of self) (pos result) ≡ self }
     {
         match self {
-            Value::Bool(b) => b as u64,
-            Value::Word8(n) => n as u64,
-            Value::Word16(n) => n as u64,
-            Value::Word32(n) => n as u64,
+            Value::Bool(b) => u64::from(b),
+            Value::Word8(n) => u64::from(n),
+            Value::Word16(n) => u64::from(n),
+            Value::Word32(n) => u64::from(n),
             Value::Word64(n) => n,
-            Value::Int8(n) => (n as i64).cast_unsigned(),
-            Value::Int16(n) => (n as i64).cast_unsigned(),
-            Value::Int32(n) => (n as i64).cast_unsigned(),
+            Value::Int8(n) => i64::from(n).cast_unsigned(),
+            Value::Int16(n) => i64::from(n).cast_unsigned(),
+            Value::Int32(n) => i64::from(n).cast_unsigned(),
             Value::Int64(n) => n.cast_unsigned(),
         }
     }

@@ -1,4 +1,4 @@
-use Rattle.std.proofs.Common.{◌<◌, get_or, ap, ◌∙◌, arith, rules}
+use Rattle.std.proofs.Common.{◌≡◌, ◌<◌, get_or, ap, ◌∙◌, arith, rules}
 use Rattle.std.specs.Int.Digits.{number_from_digits}
 use Rattle.std.proofs.lemmas.List.{take_all}
 use Rattle.std.proofs.lemmas.Int.Digits.{number_more}
@@ -14,9 +14,10 @@ overflow_add-sum c = let h = room c.loop-b.sum c.loop-b.b-index 7 c.loop-b.invar
 
 pub loop-b-preserved : goal.loop-b-preserved
 loop-b-preserved c =
+    let is : c.from.result ≡ get_or c.args.bytes.now c.loop-b.b-index 0 = search rules in
     let b : get_or c.args.bytes.now c.loop-b.b-index 0 < 256 = search rules in
     let e = number_more 256 c.args.bytes.now c.loop-b.b-index c.loop-b-test.true in
-    (omega (arith, c.loop-b.invariant.0), grown _ _ _ c.loop-b.invariant.1 b)
+    (omega (arith, c.loop-b.invariant.0), grown _ _ _ c.loop-b.invariant.1 (omega arith))
 
 pub returns : goal.returns
 returns c =
