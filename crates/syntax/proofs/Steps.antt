@@ -1,13 +1,17 @@
 -- What `parse` is, by the head. Assumes nothing.
-use Rattle.std.proofs.Common.{◌≡◌, ℕ, zero, suc, ◌-◌, ltb, List, length, get_or, Some, None, Ok, Err, Option, sym, ap, ◌∙◌, arith}
+use Rattle.std.proofs.Common.{◌≡◌, ℕ, zero, suc, ◌-◌, ltb, List, length, get_or, Some, None, Ok, Err, Option, ap, ◌∙◌, arith}
 use Rattle.std.proofs.lemmas.Bool.{cond_both}
 use Rattle.faults.specs.declared.cause.Cause.{Cause}
+use Rattle.values.specs.declared.types.«Type».{«Type» as Ty}
 use Rattle.syntax.specs.declared.codes.Op.{Op}
+use Rattle.syntax.specs.declared.codes.Op.TheVariants.{Constant}
 use Rattle.syntax.specs.declared.tree.Node.{Node}
+use Rattle.syntax.specs.declared.tree.Node.TheVariants as node
+use Rattle.std.proofs.lemmas.Bool.Decides.{nat_tests}
 use Rattle.syntax.specs.Answers.{Found, then}
 use Rattle.syntax.specs.Codes.{op_coded}
 use Rattle.syntax.specs.Trees.{channel}
-use Rattle.syntax.specs.Heads.{head, at_level}
+use Rattle.syntax.specs.Heads.{head, at_level, byte_from, type_from, value_from}
 use Rattle.syntax.specs.Parsing.{grown, parse}
 
 pub not_ok : {X : Type 0} {x : Cause} {p : X × ℕ} → ◌≡◌ {A = Found X} (Err x) (Ok p) → ⊥
@@ -34,8 +38,14 @@ module _ (bs : List ℕ) (at : ℕ) where
   step_err (suc d) x e = ap (λ h. then h (grown (parse d bs) at)) e
 
 -- the same, from what reading a head ensures
-pub grows : (bs : List ℕ) (at d : ℕ) {n : ℕ} {x y : Node} → Ok (y, n) ≡ head d bs at → y ≡ x → parse d bs at ≡ grown (parse (d - 1) bs) at x n
-grows bs at d {n} {x} {y} e is = step bs at d x n (sym e ∙ ap (λ z. Ok (z, n)) is)
+pub grows : (bs : List ℕ) (at d : ℕ) {n : ℕ} {x y : Node} → head d bs at ≡ Ok (y, n) → y ≡ x → parse d bs at ≡ grown (parse (d - 1) bs) at x n
+grows bs at d {n} {x} {y} e is = step bs at d x n (e ∙ ap (λ z. Ok (z, n)) is)
 
-pub stops : (bs : List ℕ) (at d : ℕ) {x : Cause} → Err x ≡ head d bs at → parse d bs at ≡ Err x
-stops bs at d {x} e = step_err bs at d x (sym e)
+pub stops : (bs : List ℕ) (at d : ℕ) {x : Cause} → head d bs at ≡ Err x → parse d bs at ≡ Err x
+stops bs at d {x} e = step_err bs at d x e
+
+-- the head of a constant whose type was read is its value
+pub head_constant : (bs : List ℕ) (at d b n m : ℕ) (t : Ty) → byte_from bs at ≡ Ok (b, n) → op_coded b ≡ Some Constant → (d ≡ 0 → ⊥) → type_from bs n ≡ Ok (t, m)
+    → head d bs at ≡ then (value_from bs t m) (λ v k. Ok (node.Constant v, k))
+unfolding head
+head_constant bs at d b n m t read code level type = grind (arith, nat_tests)

@@ -6,10 +6,11 @@ use Rattle.syntax.specs.declared.record.Record.{Record}
 use Rattle.faults.specs.declared.cause.Cause.{Cause}
 use Rattle.syntax.specs.declared.stop.Stop.{Stop}
 use Rattle.syntax.specs.declared.stop.Stop.TheVariants.{Refused, Memory}
-use Rattle.syntax.specs.Answers.{then, Gives}
+use Rattle.syntax.specs.Answers.{then}
+use Rattle.syntax.specs.Readers.{Stopped}
 use Rattle.faults.specs.declared.cause.Cause.TheVariants.{Limit}
 use Rattle.syntax.specs.declared.record.Kind.{Kind}
-use Rattle.syntax.specs.Entries.{Entry, entry_of, count, limit}
+use Rattle.syntax.specs.Entries.{Entry, count, limit}
 use Rattle.syntax.specs.Reading.{entry_from, entries, read_table, Yields, Begun, frame, filled}
 
 module _ (whole : Result (List Entry) Cause) (bs : List ℕ) (items : List Entry) (at : ℕ) where
@@ -24,7 +25,7 @@ module _ (whole : Result (List Entry) Cause) (bs : List ℕ) (items : List Entry
   entries_err zero x h g e w = absurd (omega arith)
   entries_err (suc f) x h g e w = w ∙ cond-true _ _ _ (lt-ltb at (length bs) h) ∙ ap (λ x. then x (λ r n. entries f (items ++ (r ∷ [])) bs n)) e
 
-  pub entries_stopped : {starved : Type 0} (s : Stop) (f : ℕ) → starved → at < length bs → length bs ≤ at + f → Gives entry_of (Err s) (entry_from items bs at) → whole ≡ entries f items bs at → Yields starved (Err s) whole
+  pub entries_stopped : {starved : Type 0} (s : Stop) (f : ℕ) → starved → at < length bs → length bs ≤ at + f → Stopped s (entry_from items bs at) → whole ≡ entries f items bs at → Yields starved (Err s) whole
   entries_stopped (Refused x) f m h l e w = entries_err f x h l e w
   entries_stopped Memory f m h l e w = m
 
@@ -43,9 +44,9 @@ module _ (before : List Entry) (bs : List ℕ) (at : ℕ) where
   entry_err x e = ap (λ f. then f (λ k end. cond (ltb (count k before) (limit k)) (filled k (take end bs) (at + 3)) (Err (Limit (at + 2))))) (sym e)
 
   -- a record that has its place among those of its kind
-  pub entry_filled : (k : Kind) (end : ℕ) → Ok (k, end) ≡ frame bs at → count k before < limit k → entry_from before bs at ≡ filled k (take (end - 0) bs) (at + 3)
+  pub entry_filled : (k : Kind) (end : ℕ) → Ok (k, end) ≡ frame bs at → count k before < limit k → entry_from before bs at ≡ filled k (take end bs) (at + 3)
   entry_filled k end e h =
-      entry_step k end e ∙ cond-true _ _ _ (lt-ltb (count k before) (limit k) h) ∙ ap (λ n. filled k (take n bs) (at + 3)) (omega arith)
+      entry_step k end e ∙ cond-true _ _ _ (lt-ltb (count k before) (limit k) h)
 
 -- a table whose version and size pass is its records
 module _ (bs : List ℕ) (version : get_or bs 0 0 ≡ 1) (size : length bs ≤ 8192) where

@@ -21,6 +21,10 @@ abbrev pub named : {X : Type 0} → Option X → ℕ → ℕ → Found X
 named None at next = Err (Malformed at)
 named (Some x) at next = Ok (x, next)
 
+-- the byte at a place
+abbrev pub byte_from : List ℕ → ℕ → Found ℕ
+byte_from bs at = within bs at (Ok (slice_index bs at, at + 1))
+
 -- the type whose code stands at a place
 abbrev pub type_from : List ℕ → ℕ → Found Ty
 type_from bs at = within bs at (named (type_coded (slice_index bs at)) at (at + 1))

@@ -2,6 +2,7 @@ pub mod Codes
 pub mod Trees
 pub mod Answers
 pub mod Heads
+pub mod Readers
 pub mod Parsing
 pub mod Entries
 pub mod Counting

@@ -1,91 +1,85 @@
-// The first bytes of an expression. The bytes that are passed end where the record ends, so that none beyond are read.
-ghost use Rattle.std.specs.Prelude.{◌≡◌, ◌+◌, ◌<◌, length, OnOk};
-ghost use Rattle.syntax.specs.Heads.{head, after, value_from, type_from};
+// The first bytes of an expression, and the small parts of a record.
+ghost use Rattle.std.specs.Prelude.{◌≡◌, ◌+◌, ◌-◌, ◌<◌, length, OnOk};
+ghost use Rattle.faults.specs.declared.cause.Cause.TheVariants.{Malformed};
+ghost use Rattle.syntax.specs.Heads.{byte_from, head, value_from, type_from};
+ghost use Rattle.syntax.specs.Readers.{Finds};
 
 use crate::codes::Op;
+use crate::reader::Reader;
 use crate::tree::Node;
 use faults::cause::Cause;
 use values::types::Type;
 use values::value::Value;
 
-// The type whose code stands at a place, and the place after it.
-pub(crate) fn read_type(bytes: &[u8], at: usize) -> Result<(Type, usize), Cause>
-    ensures { result ≡ type_from bytes.now at }
-{
-    if at >= bytes.len() {
-        return Err(Cause::Malformed(bytes.len()));
+impl<'a> Reader<'a> {
+    // A byte is missing, which is refused at the end.
+    fn missing(&self) -> Cause
+        ensures { result ≡ Malformed (length self.now.bytes.now) }
+    {
+        Cause::Malformed(self.bytes.len())
     }
-    match Type::from_code(bytes[at]) {
-        Some(ty) => Ok((ty, at + 1)),
-        None => Err(Cause::Malformed(at)),
-    }
-}
 
-// The value of a type that stands at a place, and the place after it.
-pub(crate) fn read_value(bytes: &[u8], ty: Type, at: usize) -> Result<(Value, usize), Cause>
-    ensures { result ≡ value_from bytes.now ty at }
-{
-    if at >= bytes.len() {
-        return Err(Cause::Malformed(bytes.len()));
+    // The next byte.
+    pub(crate) fn byte(&mut self) -> Result<u8, Cause>
+        ensures { Finds (λ b. b) self.old self.new result (byte_from self.old.bytes.now self.old.at) }
+    {
+        let Some(byte) = self.bytes.get(self.at) else {
+            return Err(self.missing());
+        };
+        self.at += 1;
+        Ok(*byte)
     }
-    let next = at + ty.size();
-    if next > bytes.len() {
-        return Err(Cause::Malformed(bytes.len()));
-    }
-    match ty.decode(&bytes[at..next]) {
-        Some(value) => Ok((value, next)),
-        None => Err(Cause::Malformed(at)),
-    }
-}
 
-// What follows the code at a place.
-fn rest(bytes: &[u8], at: usize, op: Op) -> Result<(Node, usize), Cause>
-    requires { at < length bytes.now }
-    ensures { result ≡ after bytes.now at op }
-{
-    let next = at + 1;
-    match op {
-        Op::Constant => {
-            let (ty, next) = read_type(bytes, next)?;
-            let (value, next) = read_value(bytes, ty, next)?;
-            Ok((Node::Constant(value), next))
-        }
-        Op::Channel => {
-            if next >= bytes.len() {
-                return Err(Cause::Malformed(bytes.len()));
-            }
-            Ok((Node::Channel(bytes[next]), at + 2))
-        }
-        Op::Stream => {
-            if at + 2 >= bytes.len() {
-                return Err(Cause::Malformed(bytes.len()));
-            }
-            if bytes[at + 2] > 63 {
-                return Err(Cause::Limit(at + 2));
-            }
-            Ok((Node::Stream(bytes[next], bytes[at + 2]), at + 3))
-        }
-        Op::Unary(op) => Ok((Node::Unary(op), next)),
-        Op::Cast => {
-            let (ty, next) = read_type(bytes, next)?;
-            Ok((Node::Cast(ty), next))
-        }
-        Op::Binary(op) => Ok((Node::Binary(op), next)),
-        Op::Choose => Ok((Node::Choose, next)),
+    // The type whose code comes next.
+    pub(crate) fn read_type(&mut self) -> Result<Type, Cause>
+        ensures { Finds (λ t. t) self.old self.new result (type_from self.old.bytes.now self.old.at) }
+    {
+        let at = self.at;
+        Type::try_from(self.byte()?).map_err(|_| Cause::Malformed(at))
     }
-}
 
-// The first bytes of the expression at a place, with `depth` levels left, and the place after them.
-pub(crate) fn head(bytes: &[u8], at: usize, depth: u8) -> Result<(Node, usize), Cause>
-    ensures value { result ≡ head depth bytes.now at }
-    ensures inside { OnOk result ((0 < depth) × (at < length bytes.now)) }
-{
-    if at >= bytes.len() {
-        return Err(Cause::Malformed(bytes.len()));
+    // The value of a type that comes next.
+    pub(crate) fn read_value(&mut self, ty: Type) -> Result<Value, Cause>
+        ensures { Finds (λ v. v) self.old self.new result (value_from self.old.bytes.now ty self.old.at) }
+    {
+        let at = self.at;
+        let next = at + ty.size();
+        if next > self.bytes.len() {
+            return Err(self.missing());
+        }
+        self.at = next;
+        ty.decode(&self.bytes[at..next]).ok_or(Cause::Malformed(at))
     }
-    match Op::from_code(bytes[at]) {
-        None => Err(Cause::Malformed(at)),
-        Some(_) if depth == 0 => Err(Cause::Limit(at)),
-        Some(op) => rest(bytes, at, op),
+
+    // The first bytes of the expression that comes next, with `depth` levels left.
+    #[tactic(auto, unfolding(crate::specs::Heads::head))]
+    pub(crate) fn head(&mut self, depth: u8) -> Result<Node, Cause>
+        ensures value { Finds (λ n. n) self.old self.new result (head depth self.old.bytes.now self.old.at) }
+        ensures inside { OnOk result ((0 < depth) × (self.old.at < length self.old.bytes.now)) }
+    {
+        let at = self.at;
+        let op = Op::try_from(self.byte()?).map_err(|_| Cause::Malformed(at))?;
+        if depth == 0 {
+            return Err(Cause::Limit(at));
+        }
+        match op {
+            Op::Constant => {
+                let ty = self.read_type()?;
+                Ok(Node::Constant(self.read_value(ty)?))
+            }
+            Op::Channel => Ok(Node::Channel(self.byte()?)),
+            Op::Stream => {
+                let number = self.byte()?;
+                let drop = self.byte()?;
+                if drop > 63 {
+                    return Err(Cause::Limit(at + 2));
+                }
+                Ok(Node::Stream(number, drop))
+            }
+            Op::Unary(op) => Ok(Node::Unary(op)),
+            Op::Cast => Ok(Node::Cast(self.read_type()?)),
+            Op::Binary(op) => Ok(Node::Binary(op)),
+            Op::Choose => Ok(Node::Choose),
+        }
     }
 }

@@ -5,6 +5,8 @@ mod body;
 mod codes;
 mod expression;
 mod head;
+mod part;
+mod reader;
 pub mod record;
 pub mod stop;
 pub mod table;

@@ -1,10 +1,11 @@
 // The records of a table.
 ghost use Rattle.std.specs.Prelude.{◌≡◌, ◌==◌, map};
+ghost use Rattle.values.specs.Codes.{known};
 ghost use Rattle.syntax.specs.Entries.{entry_of, kind_of, kind_coded, kind_code, limit, count};
 ghost use Rattle.syntax.specs.Counting.{counts_of};
 
 use crate::tree::Expr;
-use values::types::Type;
+use values::types::{Type, UnknownCode};
 use values::value::Value;
 
 // What a record declares.
@@ -38,19 +39,22 @@ pub enum Record {
     Rule(Rule),
 }
 
-impl Kind {
-    // The kind that a code names.
-    pub(crate) fn from_code(code: u8) -> Option<Kind>
-        ensures { result ≡ kind_coded code }
-    {
+impl TryFrom<u8> for Kind {
+    type Error = UnknownCode;
+
+    ghost try_from_gives = { λ code r. r ≡ known code (kind_coded code) };
+
+    fn try_from(code: u8) -> Result<Kind, UnknownCode> {
         match code {
-            1 => Some(Kind::Channel),
-            2 => Some(Kind::Stream),
-            3 => Some(Kind::Rule),
-            _ => None,
+            1 => Ok(Kind::Channel),
+            2 => Ok(Kind::Stream),
+            3 => Ok(Kind::Rule),
+            _ => Err(UnknownCode { code }),
         }
     }
+}
 
+impl Kind {
     // How many records of this kind a table has at most.
     pub(crate) fn limit(self) -> usize
         ensures { result ≡ limit self }

@@ -1,11 +1,11 @@
 // A table, from bytes.
-ghost use Rattle.std.specs.Prelude.{◌≡◌, ◌+◌, ◌<◌, ◌≤◌, [], map, length, IfOk};
-ghost use Rattle.syntax.specs.Answers.{Gives};
+ghost use Rattle.std.specs.Prelude.{◌≡◌, ◌+◌, ◌<◌, ◌≤◌, [], map, length, IfOk, OnOk};
 ghost use Rattle.syntax.specs.Entries.{entry_of};
+ghost use Rattle.syntax.specs.Readers.{Reads};
 ghost use Rattle.syntax.specs.Reading.{frame, entry_from, entries, read_table, Yields, Begun};
 ghost use Rattle.syntax.specs.Written.{AcceptsWritten};
 
-use crate::body::read_filled;
+use crate::reader::Reader;
 use crate::record::{Kind, Record, count};
 use crate::stop::Stop;
 use faults::cause::Cause;
@@ -17,65 +17,66 @@ const VERSION: u8 = 1;
 // How many bytes a table has at most.
 const MOST_BYTES: usize = 8192;
 
-// The kind of the record at a place, and the place after the record.
-fn read_frame(bytes: &[u8], at: usize) -> Result<(Kind, usize), Cause>
-    requires inside { at < length bytes.now }
-    requires few { length bytes.now ≤ 8192 }
-    ensures value { result ≡ frame bytes.now at }
-    ensures inside { IfOk result (λ p. (at + 2 < p.1) × (p.1 ≤ length bytes.now)) }
-{
-    if at + 1 >= bytes.len() {
-        return Err(Cause::Ended(at));
+impl<'a> Reader<'a> {
+    // The kind of the record that comes next, and the place after the record.
+    fn frame(&self) -> Result<(Kind, usize), Cause>
+        requires { self.now.at < length self.now.bytes.now }
+        ensures value { result ≡ frame self.now.bytes.now self.now.at }
+        ensures inside { IfOk result (λ p. (self.now.at + 2 < p.1) × (p.1 ≤ length self.now.bytes.now)) }
+    {
+        let at = self.at;
+        let bytes = self.bytes;
+        if at + 1 >= bytes.len() {
+            return Err(Cause::Ended(at));
+        }
+        let end = at + 2 + usize::from(bytes[at]) * 256 + usize::from(bytes[at + 1]);
+        if end > bytes.len() {
+            return Err(Cause::Ended(at));
+        }
+        if end <= at + 2 {
+            return Err(Cause::Malformed(at));
+        }
+        let kind = Kind::try_from(bytes[at + 2]).map_err(|_| Cause::Malformed(at + 2))?;
+        Ok((kind, end))
     }
-    let end = at + 2 + (bytes[at] as usize * 256 + bytes[at + 1] as usize);
-    if end > bytes.len() {
-        return Err(Cause::Ended(at));
-    }
-    if end <= at + 2 {
-        return Err(Cause::Malformed(at));
-    }
-    match Kind::from_code(bytes[at + 2]) {
-        Some(kind) => Ok((kind, end)),
-        None => Err(Cause::Malformed(at + 2)),
-    }
-}
 
-// The record at a place, after those before it, and the place after it.
-fn read_record(
-    heap: Global,
-    bytes: &[u8],
-    before: &[Record],
-    at: usize,
-) -> Result<(Record, usize), Stop>
-    requires inside { at < length bytes.now }
-    requires few { length bytes.now ≤ 8192 }
-    ensures value { Gives entry_of result (entry_from (map entry_of before.now) bytes.now at) }
-    ensures onward { IfOk result (λ p. (at < p.1) × (p.1 ≤ length bytes.now)) }
-{
-    let (kind, end) = read_frame(bytes, at)?;
-    if count(before, kind) >= kind.limit() {
-        return Err(Stop::Refused(Cause::Limit(at + 2)));
+    // The record that comes next, after those before it.
+    fn read_record(&mut self, alloc: Global, before: &[Record]) -> Result<Record, Stop>
+        requires { self.old.at < length self.old.bytes.now }
+        ensures value { Reads entry_of self.old self.new result (entry_from (map entry_of before.now) self.old.bytes.now self.old.at) }
+        ensures onward { OnOk result (self.old.at < self.new.at) }
+    {
+        let (kind, end) = self.frame()?;
+        if count(before, kind) >= kind.limit() {
+            return Err(Stop::Refused(Cause::Limit(self.at + 2)));
+        }
+        let mut inner = Reader {
+            bytes: &self.bytes[..end],
+            at: self.at + 3,
+        };
+        let record = inner.read_filled(alloc, kind)?;
+        self.at = end;
+        Ok(record)
     }
-    read_filled(heap, &bytes[0..end], kind, at + 3)
 }
 
 // The records after the version byte.
-fn read_records(heap: Global, bytes: &[u8]) -> Result<Vec<Record>, Stop>
-    requires { length bytes.now ≤ 8192 }
+fn read_records(alloc: Global, bytes: &[u8]) -> Result<Vec<Record>, Stop>
+    requires some { 1 ≤ length bytes.now }
+    requires few { length bytes.now ≤ 8192 }
     ensures { Yields (1 < length bytes.now) result (entries (length bytes.now) [] bytes.now 1) }
 {
-    let mut records = Vec::new(heap);
-    let mut at = 1;
-    while at < bytes.len() {
-        let (record, next) = read_record(heap, bytes, &records, at)?;
+    let mut reader = Reader { bytes, at: 1 };
+    let mut records = Vec::new(alloc);
+    while reader.at < reader.bytes.len() {
+        let record = reader.read_record(alloc, &records)?;
         records.push(record)?;
-        at = next;
     }
     Ok(records)
 }
 
 // The records of a table, or why the bytes are none.
-pub fn read_table(heap: Global, bytes: &[u8]) -> Result<Vec<Record>, Stop>
+pub fn read_table(alloc: Global, bytes: &[u8]) -> Result<Vec<Record>, Stop>
     ensures answer { Yields (Begun bytes.now) result (read_table bytes.now) }
     ensures law { AcceptsWritten bytes.now }
 {
@@ -85,5 +86,5 @@ pub fn read_table(heap: Global, bytes: &[u8]) -> Result<Vec<Record>, Stop>
     if bytes.len() > MOST_BYTES {
         return Err(Stop::Refused(Cause::Limit(MOST_BYTES)));
     }
-    read_records(heap, bytes)
+    read_records(alloc, bytes)
 }

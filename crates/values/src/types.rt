@@ -1,7 +1,7 @@
 // The types of values.
 ghost use Rattle.std.specs.Prelude.{◌≡◌};
-ghost use Rattle.values.specs.Types.{code, size, least, greatest, casts};
-ghost use Rattle.values.specs.Codes.{type_or_unknown};
+ghost use Rattle.values.specs.Types.{type_coded, code, size, least, greatest, casts};
+ghost use Rattle.values.specs.Codes.{known};
 
 // The types of values, with their codes.
 #[derive(Clone, Copy, Debug, PartialEq, Eq)]
@@ -17,18 +17,18 @@ pub enum Type {
     Int64 = 9,
 }
 
-// A code that names no type.
+// A code that names nothing.
 #[derive(Clone, Copy, Debug, PartialEq, Eq)]
-pub struct UnknownType {
+pub struct UnknownCode {
     pub code: u8,
 }
 
 impl TryFrom<u8> for Type {
-    type Error = UnknownType;
+    type Error = UnknownCode;
 
-    ghost try_from_gives = { λ code r. r ≡ type_or_unknown code };
+    ghost try_from_gives = { λ code r. r ≡ known code (type_coded code) };
 
-    fn try_from(code: u8) -> Result<Type, UnknownType> {
+    fn try_from(code: u8) -> Result<Type, UnknownCode> {
         match code {
             1 => Ok(Type::Bool),
             2 => Ok(Type::Word8),
@@ -39,7 +39,7 @@ impl TryFrom<u8> for Type {
             7 => Ok(Type::Int16),
             8 => Ok(Type::Int32),
             9 => Ok(Type::Int64),
-            _ => Err(UnknownType { code }),
+            _ => Err(UnknownCode { code }),
         }
     }
 }

@@ -3,11 +3,12 @@ use Rattle.syntax.specs.Entries.{entry_of}
 use Rattle.syntax.specs.Reading.{entries}
 use Rattle.syntax.proofs.table.read_records.Given as goal
 
-abbrev pub invariant-loop-at : goal.invariant-loop-at
-invariant-loop-at l =
-    (1 ≤ l.at)
-    × ((f : ℕ) × (length l.bytes ≤ l.at + f)
-    × (entries (length l.bytes) [] l.bytes 1 ≡ entries f (map entry_of (vec_items l.records)) l.bytes l.at))
+abbrev pub invariant-loop-reader : goal.invariant-loop-reader
+invariant-loop-reader l =
+    (l.reader.bytes.now ≡ l.bytes)
+    × (1 ≤ l.reader.at)
+    × ((f : ℕ) × (length l.bytes ≤ l.reader.at + f)
+    × (entries (length l.bytes) [] l.bytes 1 ≡ entries f (map entry_of (vec_items l.records)) l.bytes l.reader.at))
 
-abbrev pub decreases-loop-at : goal.decreases-loop-at
-decreases-loop-at l = length l.bytes - l.at
+abbrev pub decreases-loop-reader : goal.decreases-loop-reader
+decreases-loop-reader l = length l.reader.bytes.now - l.reader.at

@@ -1,0 +1,13 @@
+// Reading the parts of a record from its bytes.
+ghost use Rattle.std.specs.Prelude.{◌≡◌, ◌+◌, ◌≤◌, length};
+
+use faults::cause::Cause;
+
+// Bytes, and how far they were read. They end where the record ends, so that none beyond are read.
+#[derive(Drop)]
+pub(crate) struct Reader<'a> {
+    pub(crate) bytes: &'a [u8],
+    pub(crate) at: usize,
+    ghost short: { length bytes.now ≤ 8192 },
+    ghost inside: { at ≤ length bytes.now },
+}
