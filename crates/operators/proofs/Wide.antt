@@ -1,5 +1,5 @@
 -- Results that are worked out on integers of 128 bits, and then wrapped. Assumes nothing.
-use Rattle.std.proofs.Common.{◌≡◌, ℕ, suc, ◌-◌, ◌/◌, ◌%◌, ◌^◌, ◌≤◌, ℤ, pos, negsuc, neg_ℤ, nat_abs, sym, refl, ap, ◌∙◌, div-le_self, arith, lit<, to_z, of_z}
+use Rattle.std.proofs.Common.{◌≡◌, ℕ, suc, ◌-◌, ◌/◌, ◌%◌, ◌^◌, ◌≤◌, ℤ, pos, negsuc, neg_ℤ, nat_abs, refl, ap, ◌∙◌, div-le_self, arith, lit<, to_z, of_z}
 use native.Mathlib.Nat.{mod-zero}
 use mir.Syntax.{w128}
 use lib.Signed.{quot_z, rem_z}
