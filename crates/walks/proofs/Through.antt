@@ -3,6 +3,7 @@ use Rattle.std.proofs.Common.{ℕ, List, arith}
 use Rattle.std.specs.List.{AllByRecursion}
 use Rattle.std.proofs.ByRecursion.{All-weaker}
 use Rattle.walks.specs.declared.edge.Edge.{Edge}
+use Rattle.walks.specs.declared.graph.Graph.{Graph}
 use Rattle.walks.specs.Walks.{In}
 use Rattle.walks.specs.Edges.{graph, Fit, Fits, Bounded}
 use Rattle.walks.proofs.Cut.{all_in}
@@ -18,3 +19,7 @@ module _ (channels streams : ℕ) (es : List Edge) (fits : Fits channels streams
   pub all_bounded : AllByRecursion Bounded es
   all_bounded = All-weaker (Fit channels streams) Bounded
       (λ e f. record { reader = f.reader; read = omega (arith, f.read, fits.few_channels, fits.few_streams); drop = f.drop; opening = f.opening }) es fits.edges
+
+-- and so the edges of every graph
+pub graph_bounded : (g : Graph) → AllByRecursion Bounded g.edges.items
+graph_bounded g = all_bounded g.channels g.streams g.edges.items g.fits

@@ -1,6 +1,7 @@
 -- The graph of edges between numbered nodes: the channels from 0, then the streams, then the rules. Assumes nothing.
 use Rattle.std.specs.Prelude.{ℕ, ◌+◌, ◌<◌, ◌≤◌, List, ℤ, pos, ◌-ℤ◌}
-use Rattle.std.specs.List.{AllByRecursion}
+use Rattle.std.specs.Coded.{le_prop}
+use Rattle.std.specs.List.{AllByRecursion, AllByRecursion-prop}
 use Rattle.walks.specs.declared.edge.SheetEntry.{SheetEntry}
 use Rattle.walks.specs.declared.edge.Edge.{Edge}
 use Rattle.walks.specs.Walks.{Graph}
@@ -43,3 +44,20 @@ no_edge = record { entry = record { reader = 0; read = 0; drop = 0 }; reader = 0
 -- a node is a channel
 abbrev pub Channel : ℕ → ℕ → Type 0
 Channel channels b = b < channels
+
+-- ---- edges fit in one way at most
+Fit-prop : (channels streams : ℕ) (e : Edge) → IsProp (Fit channels streams e)
+Fit-prop channels streams e a b = λ i. record {
+  reads = le_prop a.reads b.reads i;
+  reader = le_prop a.reader b.reader i;
+  read = le_prop a.read b.read i;
+  drop = le_prop a.drop b.drop i;
+  opening = le_prop a.opening b.opening i;
+}
+
+pub Fits-prop : (channels streams : ℕ) (es : List Edge) → IsProp (Fits channels streams es)
+Fits-prop channels streams es a b = λ i. record {
+  few_channels = le_prop a.few_channels b.few_channels i;
+  few_streams = le_prop a.few_streams b.few_streams i;
+  edges = AllByRecursion-prop (Fit channels streams) (Fit-prop channels streams) es a.edges b.edges i;
+}

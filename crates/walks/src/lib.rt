@@ -2,3 +2,4 @@
 #![tactic(auto)]
 
 pub mod edge;
+pub mod graph;
