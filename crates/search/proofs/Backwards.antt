@@ -1,18 +1,17 @@
 -- A walk read off the rows from its end, one edge at a time. Assumes nothing.
-use Rattle.std.proofs.Common.{◌≡◌, ℕ, zero, suc, ◌+◌, ◌-◌, ◌*◌, ◌<◌, ◌≤◌, Bool, true, false, ◌&&◌, eqb, List, [], ◌∷◌, ◌++◌, map, length, get_or, take, drop, set, pos, ◌+ℤ◌, Some, None, Option, unwrap_or, sym, refl, ap, ◌∙◌, subst, inl, inr, arith}
-use native.Mathlib.Decide.{dec_lt}
-use Rattle.std.specs.List.{AllByRecursion}
-use Rattle.std.proofs.lemmas.List.{take_more, append_assoc, set_at, length-take-le, take-append-drop}
+use Rattle.std.proofs.Common.{◌≡◌, ℕ, ◌+◌, ◌-◌, ◌*◌, ◌<◌, ◌≤◌, Bool, true, false, cond, ◌&&◌, eqb, List, [], ◌∷◌, ◌++◌, map, length, get_or, take, drop, set, pos, ◌+ℤ◌, Some, None, Option, sym, refl, ap, ◌∙◌, subst, inl, inr, arith}
+use Rattle.std.specs.List.{AllByRecursion, find}
+use Rattle.std.proofs.lemmas.List.{take_more, append_assoc, set_at, length-take-le}
 use Rattle.std.proofs.lemmas.Int.{ints}
 use Rattle.std.proofs.lemmas.Bool.Decides.{nat_tests}
 use Rattle.walks.specs.declared.edge.Edge.{Edge}
 use Rattle.walks.specs.declared.edge.SheetEntry.{SheetEntry}
 use Rattle.walks.specs.Walks.{In, Walk, weigh}
-use Rattle.walks.specs.Edges.{graph, told, Bounded, no_edge}
+use Rattle.walks.specs.Edges.{graph, told, Bounded}
 use Rattle.walks.proofs.Cut.{all_in}
-use Rattle.search.specs.Rows.{lift, Low, stepped, layer, reaches, meets, into}
-use Rattle.search.specs.Listings.{Layers, Found, Listed}
-use Rattle.search.proofs.Rows.{clash, reaches_out, low_at}
+use Rattle.search.specs.Rows.{lift, Low, stepped, layer, meets, into}
+use Rattle.search.specs.Listings.{Layers, Listed}
+use Rattle.search.proofs.Rows.{clash, low_at}
 use Rattle.search.proofs.Steps.{Comes, stepped_some}
 use Rattle.search.proofs.Layers.{layer_more}
 
@@ -33,24 +32,23 @@ into_out from b z e p =
 into_from : (from : List (Option ℕ)) (b z : ℕ) (e : Edge) (y : ℕ) → e.read ≡ b → get_or from e.reader None ≡ Some y → z ≡ y + lift e → into from b z e ≡ true
 into_from from b z e y same here is = ap (λ (o : Option ℕ). eqb e.read b && meets o (lift e) z) here ∙ grind (arith, nat_tests)
 
-in_at : (es : List Edge) (e : Edge) → In e es → (j : ℕ) × (j < length es) × (get_or es j no_edge ≡ e)
-in_at [] e m = absurd m
-in_at (x ∷ es) e (inl same) = (0, omega arith, same)
-in_at (x ∷ es) e (inr m) = let (j, l, at) = in_at es e m in (suc j, omega arith, at)
+-- where an edge passes the test, some edge is the first that does
+find_in : (p : Edge → Bool) (es : List Edge) (e : Edge) → In e es → p e ≡ true → (r : Edge) × (find p es ≡ Some r)
+find_in p [] e m t = absurd m
+find_in p (x ∷ es) e m t = go (λ n. find_in p es e n t) (p x) refl
+  where
+    go : (In e es → (r : Edge) × (find p es ≡ Some r)) → (v : Bool) → p x ≡ v → (r : Edge) × (cond v (Some x) (find p es) ≡ Some r)
+    go later true q = (x, refl)
+    go later false q = elim m [ inl same ↦ clash (p x) (ap p same ∙ t) q | inr n ↦ later n ]
 
-in_getD : (es : List Edge) (i : ℕ) (d : Edge) → i < length es → In (get_or es i d) es
-in_getD [] i d h = absurd (omega arith)
-in_getD (x ∷ es) zero d h = inl refl
-in_getD (x ∷ es) (suc i) d h = inr (in_getD es i d (omega arith))
-
--- what comes by an edge is found
-found_within : (es : List Edge) (from : List (Option ℕ)) (b z i : ℕ) → Comes from es b z → Found es from b z i → i < length es
-found_within es from b z i (e, m, same, y, here, is) f =
-    let (j, l, at) = in_at es e m in
-    elim (dec_lt j i) [
-      | yes s ↦ clash (into from b z e) (into_from from b z e y same here is) (ap (into from b z) (sym at) ∙ f.before j s)
-      | no s ↦ omega arith
-    ]
+-- and the first passes it
+find_out : (p : Edge → Bool) (es : List Edge) (r : Edge) → find p es ≡ Some r → In r es × (p r ≡ true)
+find_out p [] r e = absurd (let z : ◌≡◌ {A = ℕ} 0 1 = cc in omega arith)
+find_out p (x ∷ es) r e = go (find_out p es r) (p x) refl e
+  where
+    go : (find p es ≡ Some r → In r es × (p r ≡ true)) → (v : Bool) → p x ≡ v → cond v (Some x) (find p es) ≡ Some r → In r (x ∷ es) × (p r ≡ true)
+    go later true q e = let same : x ≡ r = cc in (inl same, ap p (sym same) ∙ q)
+    go later false q e = let (m, t) = later e in (inr m, t)
 
 -- the last edges of a walk of count edges to end are told, from the place k on; a walk of k edges to b is left
 pub record Going (es : List Edge) (rows : List (List (Option ℕ))) (count end whole : ℕ) (old new : List SheetEntry) (k b left : ℕ) : Type 0 where
@@ -61,66 +59,48 @@ pub record Going (es : List Edge) (rows : List (List (Option ℕ))) (count end w
   pub heavy : pos whole ≡ pos left +ℤ weigh (graph es) tail +ℤ pos (64 * length tail)
   pub listed : new ≡ take k old ++ (map told tail ++ drop count old)
 
--- what stands at the end of the last row is what the walk weighs
-pub whole_shown : (es : List Edge) (s : List (Option ℕ)) (rows : List (List (Option ℕ))) (count end whole : ℕ) → Layers es s count rows →
-    reaches (get_or (layer es s count) end None) 0 ≡ true → whole ≡ unwrap_or (get_or (get_or rows count []) end None) 0 → get_or (layer es s count) end None ≡ Some whole
-whole_shown es s rows count end whole layers reached is =
-    let (z, shown, _) = reaches_out (get_or (layer es s count) end None) 0 reached in
-    let same : whole ≡ z =
-    is ∙ ap (λ (x : List (Option ℕ)). unwrap_or (get_or x end None) 0) (layers count (omega arith)) ∙ ap (λ (o : Option ℕ). unwrap_or o 0) shown in
-    shown ∙ ap (λ (x : ℕ). Some x) (sym same)
-
-pub going_none : (es : List Edge) (s : List (Option ℕ)) (rows : List (List (Option ℕ))) (count end whole : ℕ) (old : List SheetEntry) → Layers es s count rows →
-    get_or (layer es s count) end None ≡ Some whole → Going es rows count end whole old old count end whole
-going_none es s rows count end whole old layers shown = record {
-  tail = [];
-  goes = refl;
-  long = omega arith;
-  here = ap (λ (x : List (Option ℕ)). get_or x end None) (layers count (omega arith)) ∙ shown;
-  heavy = omega (arith, ints);
-  listed = sym (take-append-drop count old);
-}
-
 module _ {es : List Edge} {rows : List (List (Option ℕ))} {count end whole : ℕ} {old new : List SheetEntry} {k b left : ℕ}
     (o : Going es rows count end whole old new k b left) (s : List (Option ℕ)) (layers : Layers es s count rows) where
-  module _ (some : 0 < k) {i : ℕ} (found : Found es (get_or rows (k - 1) []) b left i) where
-    comes : Comes (get_or rows (k - 1) []) es b left
-    comes =
+  module _ (some : 0 < k) where
+    -- some edge leads to what stands there
+    pub going_edge : (r : Edge) × (find (into (get_or rows (k - 1) []) b left) es ≡ Some r)
+    going_edge =
         let e : k ≡ k - 1 + 1 = omega arith in
         let more : get_or rows k [] ≡ stepped es (layer es s (k - 1)) = layers k (omega (arith, o.long)) ∙ ap (layer es s) e ∙ layer_more es s (k - 1) in
-        subst (λ (x : List (Option ℕ)). Comes x es b left) (sym (layers (k - 1) (omega (arith, o.long))))
-        (stepped_some es (layer es s (k - 1)) b left (ap (λ (x : List (Option ℕ)). get_or x b None) (sym more) ∙ o.here))
+        let (r, m, same, y, here, is) = subst (λ (x : List (Option ℕ)). Comes x es b left) (sym (layers (k - 1) (omega (arith, o.long))))
+        (stepped_some es (layer es s (k - 1)) b left (ap (λ (x : List (Option ℕ)). get_or x b None) (sym more) ∙ o.here)) in
+        find_in (into (get_or rows (k - 1) []) b left) es r m (into_from (get_or rows (k - 1) []) b left r y same here is)
 
-    pub going_edge : i < length es
-    going_edge = found_within es (get_or rows (k - 1) []) b left i comes found
+    module _ (small : AllByRecursion Bounded es) (r : Edge) (found : find (into (get_or rows (k - 1) []) b left) es ≡ Some r) where
+      at_edge : In r es × (into (get_or rows (k - 1) []) b left r ≡ true)
+      at_edge = find_out (into (get_or rows (k - 1) []) b left) es r found
 
-    pub going_less : lift (get_or es i no_edge) ≤ left
-    going_less = let (_, y, _, e) = into_out (get_or rows (k - 1) []) b left (get_or es i no_edge) (found.here going_edge) in omega arith
+      pub going_bounded : Bounded r
+      going_bounded = all_in Bounded es r small at_edge.0
 
-    pub going_more : AllByRecursion Bounded es → count ≤ length old → (by : ℕ) → by ≡ lift (get_or es i no_edge) →
-        Going es rows count end whole old (set new (k - 1) (get_or es i no_edge).entry) (k - 1) (get_or es i no_edge).reader (left - by)
-    going_more small fits by lifts =
-        let r : Edge = get_or es i no_edge in
-        let m : In r es = in_getD es i no_edge going_edge in
-        let (e, y, here, sum) = into_out (get_or rows (k - 1) []) b left r (found.here going_edge) in
-        let t : Bounded r = all_in Bounded es r small m in
-        let left_is : left - by ≡ y = omega arith in
-        let d : SheetEntry = r.entry in
-        let rest : List SheetEntry = map told o.tail ++ drop count old in
-        let k_is : k ≡ k - 1 + 1 = omega arith in
-        record {
-          tail = r ∷ o.tail;
-          goes = (refl, m, subst (λ (x : ℕ). Walk (graph es) x o.tail end) (sym e) o.goes);
-          long = omega (arith, o.long);
-          here = here ∙ ap (λ (x : ℕ). Some x) (sym left_is);
-          heavy = omega (arith, ints, o.heavy, t.opening);
-          listed =
-              ap (λ (x : List SheetEntry). set x (k - 1) d) (o.listed ∙ ap (λ (x : ℕ). take x old ++ rest) k_is ∙
-              ap (λ (x : List SheetEntry). x ++ rest) (take_more old (k - 1) d (omega (arith, o.long))) ∙ append_assoc (take (k - 1) old) (get_or old (k - 1) d ∷ []) rest) ∙
-              set_at (take (k - 1) old) (get_or old (k - 1) d) rest d (k - 1) (length-take-le (k - 1) old (omega (arith, o.long)));
-        }
+      pub going_less : lift r ≤ left
+      going_less = let (_, y, _, e) = into_out (get_or rows (k - 1) []) b left r at_edge.1 in omega arith
 
-  pub going_all : AllByRecursion (Low 0) s → get_or (layer es s count) end None ≡ Some whole → k ≡ 0 → Listed es s (record { node = end; length = count }) old new
+      pub going_more : count ≤ length old → (by : ℕ) → by ≡ lift r → Going es rows count end whole old (set new (k - 1) r.entry) (k - 1) r.reader (left - by)
+      going_more fits by lifts =
+          let (e, y, here, sum) = into_out (get_or rows (k - 1) []) b left r at_edge.1 in
+          let left_is : left - by ≡ y = omega arith in
+          let d : SheetEntry = r.entry in
+          let rest : List SheetEntry = map told o.tail ++ drop count old in
+          let k_is : k ≡ k - 1 + 1 = omega arith in
+          record {
+            tail = r ∷ o.tail;
+            goes = (refl, at_edge.0, subst (λ (x : ℕ). Walk (graph es) x o.tail end) (sym e) o.goes);
+            long = omega (arith, o.long);
+            here = here ∙ ap (λ (x : ℕ). Some x) (sym left_is);
+            heavy = omega (arith, ints, o.heavy, going_bounded.opening);
+            listed =
+                ap (λ (x : List SheetEntry). set x (k - 1) d) (o.listed ∙ ap (λ (x : ℕ). take x old ++ rest) k_is ∙
+                ap (λ (x : List SheetEntry). x ++ rest) (take_more old (k - 1) d (omega (arith, o.long))) ∙ append_assoc (take (k - 1) old) (get_or old (k - 1) d ∷ []) rest) ∙
+                set_at (take (k - 1) old) (get_or old (k - 1) d) rest d (k - 1) (length-take-le (k - 1) old (omega (arith, o.long)));
+          }
+
+  pub going_all : AllByRecursion (Low 0) s → get_or (get_or rows count []) end None ≡ Some whole → k ≡ 0 → Listed es s (record { node = end; length = count }) old new
   unfolding layer
   going_all low shown e =
       let p : Going es rows count end whole old new 0 b left = subst (λ (x : ℕ). Going es rows count end whole old new x b left) e o in
@@ -133,7 +113,7 @@ module _ {es : List Edge} {rows : List (List (Option ℕ))} {count end whole : �
         begins = here ∙ ap (λ (x : ℕ). Some x) none;
         long = omega (arith, p.long);
         whole = whole;
-        shown = shown;
+        shown = ap (λ (x : List (Option ℕ)). get_or x end None) (sym (layers count (omega arith))) ∙ shown;
         heavy = omega (arith, ints, p.heavy, p.long);
         listed = p.listed;
       }

@@ -1,9 +1,9 @@
 -- What the rows of walks of k edges say of walks. Assumes nothing.
-use Rattle.std.proofs.Common.{◌≡◌, ℕ, zero, suc, ◌+◌, ◌*◌, ◌<◌, ◌≤◌, true, List, [], ◌∷◌, length, get_or, set, replicate, pos, ◌+ℤ◌, ◌≤ℤ◌, Some, None, Option, sym, refl, ap, ◌∙◌, subst, inl, inr, arith}
+use Rattle.std.proofs.Common.{◌≡◌, ℕ, zero, suc, ◌+◌, ◌-◌, ◌*◌, ◌<◌, ◌≤◌, true, List, [], ◌∷◌, ◌++◌, length, get_or, set, replicate, pos, ◌+ℤ◌, ◌≤ℤ◌, Some, None, Option, sym, refl, ap, ◌∙◌, subst, inl, inr, arith}
 use native.Mathlib.Decide.{ℕ_discrete}
 use Rattle.std.specs.List.{AllByRecursion}
 use Rattle.std.proofs.ByRecursion.{All-set, All-weaker}
-use Rattle.std.proofs.lemmas.List.{get_or-set_same, get_or-set_other}
+use Rattle.std.proofs.lemmas.List.{get_or-set_same, get_or-set_other, get_or_append_left}
 use Rattle.std.proofs.lemmas.Int.{ints}
 use Rattle.walks.specs.declared.edge.Edge.{Edge}
 use Rattle.walks.specs.Walks.{Walk, weigh}
@@ -39,6 +39,9 @@ layer_more es s k = ap (layer es s) (let e : k + 1 ≡ suc k = omega arith in e)
 -- a row that the last one is stepped to
 pub row_more : (es : List Edge) (s : List (Option ℕ)) (k : ℕ) (row next : List (Option ℕ)) → row ≡ layer es s k → next ≡ stepped es row → next ≡ layer es s (k + 1)
 row_more es s k row next e n = n ∙ ap (stepped es) e ∙ sym (layer_more es s k)
+
+pub row_next : (es : List Edge) (s : List (Option ℕ)) (k : ℕ) (row next : List (Option ℕ)) → 0 < k → row ≡ layer es s (k - 1) → next ≡ stepped es row → next ≡ layer es s k
+row_next es s k row next some e n = row_more es s (k - 1) row next e n ∙ ap (layer es s) (omega arith)
 
 module _ (es : List Edge) (small : AllByRecursion Bounded es) (s : List (Option ℕ)) where
   layer_low_by : AllByRecursion (Low 0) s → (k : ℕ) → AllByRecursion (Low (127 * k)) (layer es s k)
@@ -81,13 +84,18 @@ module _ (es : List Edge) (small : AllByRecursion Bounded es) (s : List (Option 
       reaches_less (get_or (layer es s (length w)) b None) (64 * length w + over) z (omega (arith, ints)) shown
 
 -- ---- the rows of all lengths
-pub layers_none : (es : List Edge) (rows : List (List (Option ℕ))) → Layers es (get_or rows 0 []) 0 rows
+-- the row s, then those of 1 to count edges, and whatever is left
+pub layers_all : (es : List Edge) (s : List (Option ℕ)) (count : ℕ) (rows rest : List (List (Option ℕ))) → count ≤ length rows →
+    ((k : ℕ) → k < count → get_or rows k [] ≡ layer es s (k + 1)) → Layers es s count (s ∷ (rows ++ rest))
 unfolding layer
-layers_none es rows k h = let e : 0 ≡ k = omega arith in subst (λ (x : ℕ). get_or rows x [] ≡ layer es (get_or rows 0 []) x) e refl
+layers_all es s count rows rest long are zero h = refl
+layers_all es s count rows rest long are (suc k) h =
+    get_or_append_left rows rest [] k (omega arith) ∙ are k (omega arith) ∙ layer_more es s k
 
-pub layers_more : (es : List Edge) (s : List (Option ℕ)) (k : ℕ) (rows : List (List (Option ℕ))) (next : List (Option ℕ)) → k + 1 < length rows →
-    Layers es s k rows → next ≡ layer es s (k + 1) → Layers es s (k + 1) (set rows (k + 1) next)
-layers_more es s k rows next l layers is j h = elim (ℕ_discrete (k + 1) j) [
-  | yes same ↦ subst (λ (x : ℕ). get_or (set rows (k + 1) next) x [] ≡ layer es s x) same (get_or-set_same rows (k + 1) next [] l ∙ is)
-  | no other ↦ get_or-set_other rows (k + 1) j next [] (λ q. other (sym q)) ∙ layers j (omega arith)
+-- one more
+pub layers_more : (es : List Edge) (s : List (Option ℕ)) (k : ℕ) (rows : List (List (Option ℕ))) (next : List (Option ℕ)) → k < length rows →
+    ((j : ℕ) → j < k → get_or rows j [] ≡ layer es s (j + 1)) → next ≡ layer es s (k + 1) → (j : ℕ) → j < k + 1 → get_or (set rows k next) j [] ≡ layer es s (j + 1)
+layers_more es s k rows next l are is j h = elim (ℕ_discrete k j) [
+  | yes same ↦ subst (λ (x : ℕ). get_or (set rows k next) x [] ≡ layer es s (x + 1)) same (get_or-set_same rows k next [] l ∙ is)
+  | no other ↦ get_or-set_other rows k j next [] (λ q. other (sym q)) ∙ are j (omega arith)
 ]

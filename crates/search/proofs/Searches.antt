@@ -1,6 +1,8 @@
 -- The search for an arrival of the fewest edges, one length or one start at a time. Assumes nothing.
-use Rattle.std.proofs.Common.{◌≡◌, ℕ, ◌+◌, ◌-◌, ◌*◌, ◌<◌, ◌≤◌, min, true, List, get_or, Some, None, Option, sym, refl, subst, arith, MatchOption}
+use Rattle.std.proofs.Common.{◌≡◌, ℕ, ◌+◌, ◌-◌, ◌*◌, ◌<◌, ◌≤◌, min, true, false, List, length, get_or, Some, None, Option, sym, refl, ◌∙◌, subst, arith, MatchOption}
 use native.Mathlib.Decide.{dec_lt}
+use Rattle.std.specs.List.{range_with_len, AllWithin, HoldsAt}
+use Rattle.std.proofs.lemmas.List.FromFn.{get_or-range_with_len, length-range_with_len}
 use Rattle.walks.specs.declared.edge.Edge.{Edge}
 use Rattle.search.specs.declared.arrival.Target.{Target}
 use Rattle.search.specs.declared.arrival.Arrival.{Arrival}
@@ -8,28 +10,41 @@ use Rattle.search.specs.Rows.{layer, alone, reaches}
 use Rattle.search.specs.Arrivals.{ring, Unreached, Reached, Missed, First, Open, Unclosed, Fewest}
 use Rattle.search.proofs.Rows.{reaches_less}
 
+-- ---- nodes
+-- the first number of a range that comes up to z, as a search over the range finds it
+pub found_between : (row : List (Option ℕ)) (lo hi z : ℕ) (r : Option ℕ) →
+    (let all = range_with_len lo (hi - lo) in
+    MatchOption r (AllWithin (λ b. reaches (get_or row b None) z ≡ false) all 0 (length all))
+    (λ b. (reaches (get_or row b None) z ≡ true) × (i : ℕ) × (i < length all) × HoldsAt (λ y. y ≡ b) all i × AllWithin (λ b. reaches (get_or row b None) z ≡ false) all 0 i)) →
+    MatchOption r (Unreached row lo hi z) (Reached row lo hi z)
+found_between row lo hi z None none = λ b l h.
+    let at : get_or (range_with_len lo (hi - lo)) (b - lo) 0 ≡ b = get_or-range_with_len lo (hi - lo) (b - lo) 0 (omega arith) ∙ omega arith in
+    subst (λ x. reaches (get_or row x None) z ≡ false) at (none (b - lo) 0 (omega arith) (omega (arith, length-range_with_len lo (hi - lo))))
+found_between row lo hi z (Some b) (here, i, l, is, before) =
+    let e : lo + i ≡ b = sym (get_or-range_with_len lo (hi - lo) i 0 (omega (arith, length-range_with_len lo (hi - lo)))) ∙ is 0 in
+    record { from = omega arith; below = omega (arith, length-range_with_len lo (hi - lo)); here = here }
+
 -- ---- lengths
 module _ (es : List Edge) (s : List (Option ℕ)) (t : Target) where
   pub missed_less : (k m : ℕ) → m ≤ k → Missed es s t k → Missed es s t m
   missed_less k m h none j l i = none j l (omega arith)
 
-  module _ (k : ℕ) (none : Missed es s t k) (row : List (Option ℕ)) (is : row ≡ layer es s (k + 1)) where
-    pub missed_more : Unreached row t.first t.end (64 * (k + 1) + t.over) → Missed es s t (k + 1)
-    missed_more here j l h = elim (dec_lt j (k + 1)) [
+  module _ (k : ℕ) (some : 0 < k) (none : Missed es s t (k - 1)) (row : List (Option ℕ)) (is : row ≡ layer es s k) where
+    pub missed_more : Unreached row t.first t.end (64 * k + t.over) → Missed es s t k
+    missed_more here j l h = elim (dec_lt j k) [
       | yes less ↦ none j l (omega arith)
       | no more ↦
-          let e : k + 1 ≡ j = omega arith in
+          let e : k ≡ j = omega arith in
           subst (λ (x : ℕ). Unreached (layer es s x) t.first t.end (64 * x + t.over)) e
-          (subst (λ (x : List (Option ℕ)). Unreached x t.first t.end (64 * (k + 1) + t.over)) is here)
+          (subst (λ (x : List (Option ℕ)). Unreached x t.first t.end (64 * k + t.over)) is here)
     ]
 
-    pub first_at : (limit b : ℕ) → k < limit → Reached row t.first t.end (64 * (k + 1) + t.over) b →
-        First es s t limit (record { node = b; length = k + 1 })
+    pub first_at : (limit b : ℕ) → k ≤ limit → Reached row t.first t.end (64 * k + t.over) b → First es s t limit (record { node = b; length = k })
     first_at limit b h here = record {
-      some = omega arith;
-      within = omega arith;
-      at = subst (λ (x : List (Option ℕ)). Reached x t.first t.end (64 * (k + 1) + t.over) b) is here;
-      before = missed_less k (k + 1 - 1) (omega arith) none;
+      some = some;
+      within = h;
+      at = subst (λ (x : List (Option ℕ)). Reached x t.first t.end (64 * k + t.over) b) is here;
+      before = none;
     }
 
 pub first_reached : (es : List Edge) (s : List (Option ℕ)) (t : Target) (limit : ℕ) (f : Arrival) → First es s t limit f →

@@ -1,21 +1,15 @@
 -- A walk read off the rows from its end. Assumes nothing.
-use Rattle.std.specs.Prelude.{◌≡◌, ℕ, ◌*◌, ◌<◌, ◌≤◌, true, false, List, [], ◌++◌, map, length, drop, pos, ◌+ℤ◌, Some, None, Option, slice_index_or}
+use Rattle.std.specs.Prelude.{◌≡◌, ℕ, ◌*◌, ◌≤◌, List, [], ◌++◌, map, length, drop, pos, ◌+ℤ◌, Some, None, Option, slice_index_or}
 use Rattle.walks.specs.declared.edge.Edge.{Edge}
 use Rattle.walks.specs.declared.edge.SheetEntry.{SheetEntry}
 use Rattle.walks.specs.Walks.{Walk, weigh}
-use Rattle.walks.specs.Edges.{graph, told, no_edge}
+use Rattle.walks.specs.Edges.{graph, told}
 use Rattle.search.specs.declared.arrival.Arrival.{Arrival}
-use Rattle.search.specs.Rows.{layer, into}
+use Rattle.search.specs.Rows.{layer}
 
 -- the rows of walks of 0 to count edges that begin as s says
 abbrev pub Layers : List Edge → List (Option ℕ) → ℕ → List (List (Option ℕ)) → Type 0
 Layers es s count rows = (k : ℕ) → k ≤ count → slice_index_or rows k [] ≡ layer es s k
-
--- the first edge that leads from the row to the lifted weight z at b has the place i, which is past the last where there is none
-pub record Found (es : List Edge) (from : List (Option ℕ)) (b z i : ℕ) : Type 0 where
-  pub within : i ≤ length es
-  pub before : (j : ℕ) → j < i → into from b z (slice_index_or es j no_edge) ≡ false
-  pub here : i < length es → into from b z (slice_index_or es i no_edge) ≡ true
 
 -- a walk to the arrival's node, of its length, begun as s says and as heavy as the rows say, stands in the first entries of a sheet; the others are as they were
 pub record Listed (es : List Edge) (s : List (Option ℕ)) (f : Arrival) (old new : List SheetEntry) : Type 0 where

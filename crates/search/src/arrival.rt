@@ -1,14 +1,14 @@
 // The walk of the fewest edges that arrives at a target, by the rows.
 ghost use Rattle.std.specs.Prelude.{◌≡◌, ◌+◌, ◌≤◌, MatchOption};
 ghost use Rattle.std.specs.List.{AllByRecursion};
-ghost use Rattle.walks.specs.Edges.{Bounded};
 ghost use Rattle.search.specs.Rows.{Low, reaches};
 ghost use Rattle.search.specs.Arrivals.{ring, outside, Unreached, Reached, Missed, First};
 
 use crate::row::{Row, step};
-use walks::edge::Edge;
+use walks::graph::Graph;
 
 // What a walk is to come to: a node from `first` on below `end`, with a weight of `over` or more.
+// Two numbers, since a range is not copied, and each length needs it anew.
 #[derive(Clone, Copy)]
 pub(crate) struct Target {
     first: usize,
@@ -52,10 +52,7 @@ pub(crate) struct Arrival {
 fn reaches(weight: Option<u32>, least: usize) -> bool
     ensures { result ≡ reaches weight least }
 {
-    match weight {
-        Some(weight) => least <= weight as usize,
-        None => false,
-    }
+    weight.is_some_and(|weight| least <= weight as usize)
 }
 
 // The first node from `first` on below `end` whose place in the row comes up to `least`.
@@ -63,37 +60,28 @@ fn find_node(row: &Row, first: usize, end: usize, least: usize) -> Option<usize>
     requires { end ≤ 64 }
     ensures { MatchOption result (Unreached row.now first end least) (Reached row.now first end least) }
 {
-    for node in first..end {
-        if reaches(row[node], least) {
-            return Some(node);
-        }
-    }
-    None
+    (first..end).find(|node| reaches(row[*node], least))
 }
 
 // The first arrival at the target by a walk of 1 to `limit` edges that begins as `start` says.
 pub(crate) fn first_arrival(
-    edges: &[Edge],
+    graph: &Graph,
     start: Row,
     target: Target,
     limit: usize,
 ) -> Option<Arrival>
-    requires bounded { AllByRecursion Bounded edges.now }
     requires low { AllByRecursion (Low 0) start }
     requires few { limit ≤ 33 }
     requires nodes { target.end ≤ 64 }
     requires light { target.over ≤ 1 }
-    ensures { MatchOption result (Missed edges.now start target limit) (First edges.now start target limit) }
+    ensures { MatchOption result (Missed graph.now.edges.items start target limit) (First graph.now.edges.items start target limit) }
 {
     let mut row = start;
-    for k in 0..limit {
-        row = step(edges, &row);
-        let least = 64 * (k + 1) + target.over;
+    for length in 1..=limit {
+        row = step(graph, &row);
+        let least = 64 * length + target.over;
         if let Some(node) = find_node(&row, target.first, target.end, least) {
-            return Some(Arrival {
-                node,
-                length: k + 1,
-            });
+            return Some(Arrival { node, length });
         }
     }
     None

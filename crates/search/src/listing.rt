@@ -1,25 +1,27 @@
 // A walk read off the rows from its end, and listed in the sheet.
-ghost use Rattle.std.specs.Prelude.{◌≡◌, ◌<◌, ◌≤◌, true, length, None, slice_index_or};
+ghost use Rattle.std.specs.Prelude.{◌≡◌, ◌<◌, ◌≤◌, true, length, None, find, slice_index_or};
 ghost use Rattle.std.specs.List.{AllByRecursion};
+ghost use Rattle.std.specs.Option.{option_copied};
 ghost use Rattle.walks.specs.Edges.{Bounded};
 ghost use Rattle.search.specs.Rows.{Low, layer, into, reaches};
-ghost use Rattle.search.specs.Listings.{Layers, Found, Listed};
+ghost use Rattle.search.specs.Listings.{Layers, Listed};
 
 use crate::arrival::Arrival;
 use crate::row::{Row, lift, step};
 use walks::edge::{Edge, SheetEntry};
+use walks::graph::Graph;
 
 // The rows of walks of 0 to `count` edges.
-fn layers(edges: &[Edge], start: Row, count: usize) -> [Row; 34]
-    requires bounded { AllByRecursion Bounded edges.now }
+fn layers(graph: &Graph, start: Row, count: usize) -> [Row; 34]
     requires low { AllByRecursion (Low 0) start }
     requires few { count ≤ 33 }
-    ensures { Layers edges.now start count result }
+    ensures { Layers graph.now.edges.items start count result }
 {
     let mut rows = [start; 34];
-    for k in 0..count {
-        let next = step(edges, &rows[k]);
-        rows[k + 1] = next;
+    let mut row = start;
+    for next in &mut rows[1..=count] {
+        row = step(graph, &row);
+        *next = row;
     }
     rows
 }
@@ -30,48 +32,36 @@ fn leads_into(from: &Row, edge: &Edge, node: usize, left: u32) -> bool
     requires low { AllByRecursion (Low 8192) from.now }
     ensures { result ≡ into from.now node left edge.now }
 {
-    if edge.read != node {
-        return false;
-    }
-    match from[edge.reader] {
-        Some(weight) => weight + lift(edge) == left,
-        None => false,
-    }
+    edge.read == node && from[edge.reader].is_some_and(|weight| weight + lift(edge) == left)
 }
 
 // The first edge that leads from the row to the weight `left` at `node`.
-fn find_into(edges: &[Edge], from: &Row, node: usize, left: u32) -> usize
-    requires bounded { AllByRecursion Bounded edges.now }
-    requires low { AllByRecursion (Low 8192) from.now }
-    ensures { Found edges.now from.now node left result }
+fn find_into<'a>(graph: &'a Graph, from: &Row, node: usize, left: u32) -> Option<&'a Edge>
+    requires { AllByRecursion (Low 8192) from.now }
+    ensures { option_copied result ≡ find (into from.now node left) graph.now.edges.items }
 {
-    for (i, edge) in edges.iter().enumerate() {
-        if leads_into(from, edge, node, left) {
-            return i;
-        }
-    }
-    edges.len()
+    graph
+        .edges
+        .iter()
+        .find(|edge| leads_into(from, edge, node, left))
 }
 
 // Lists a heaviest walk of the arrival's length to its node.
-pub(crate) fn list_walk(edges: &[Edge], start: Row, arrival: Arrival, sheet: &mut [SheetEntry])
-    requires bounded { AllByRecursion Bounded edges.now }
+pub(crate) fn list_walk(graph: &Graph, start: Row, arrival: Arrival, sheet: &mut [SheetEntry])
     requires low { AllByRecursion (Low 0) start }
     requires few { arrival.length ≤ 33 }
     requires space { arrival.length ≤ length sheet.old }
     requires node { arrival.node < 64 }
-    requires reached { reaches (slice_index_or (layer edges.now start arrival.length) arrival.node None) 0 ≡ true }
-    ensures { Listed edges.now start arrival sheet.old sheet.new }
+    requires reached { reaches (slice_index_or (layer graph.now.edges.items start arrival.length) arrival.node None) 0 ≡ true }
+    ensures { Listed graph.now.edges.items start arrival sheet.old sheet.new }
 {
-    let rows = layers(edges, start, arrival.length);
-    let mut k = arrival.length;
+    let rows = layers(graph, start, arrival.length);
     let mut node = arrival.node;
-    let mut left = rows[k][node].unwrap_or(0);
-    while k > 0 {
-        k -= 1;
-        let edge = edges[find_into(edges, &rows[k], node, left)];
+    let mut left = rows[arrival.length][node].unwrap();
+    for k in (0..arrival.length).rev() {
+        let edge = find_into(graph, &rows[k], node, left).unwrap();
         sheet[k] = edge.entry;
         node = edge.reader;
-        left -= lift(&edge);
+        left -= lift(edge);
     }
 }

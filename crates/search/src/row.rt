@@ -5,12 +5,16 @@ ghost use Rattle.walks.specs.Edges.{Bounded};
 ghost use Rattle.search.specs.Rows.{lift, Low, extended, stepped, alone};
 
 use walks::edge::Edge;
+use walks::graph::{Graph, NODES};
 
-// By node; None where no walk ends. What 33 edges weigh, 127 each at most once lifted, stays below 8192.
-pub(crate) type Row = [Option<u32>; 64];
+// By node; None where no walk ends. An array, since a search must not fail for want of memory.
+// Its numbers carry no bound in their type, since the bound of a row differs from call to call:
+// what 33 edges weigh, 127 each at most once lifted, stays below 8192.
+pub(crate) type Row = [Option<u32>; NODES];
 
 // What an edge weighs, and 64, so that it is never less than 0.
 pub(crate) fn lift(edge: &Edge) -> u32
+    // Required of each edge, since the definitions speak of an edge as a plain record, and of none by itself.
     requires { Bounded edge.now }
     ensures { result ≡ lift edge.now }
 {
@@ -35,13 +39,12 @@ fn extend(from: &Row, to: &mut Row, edge: &Edge)
 }
 
 // The row of the walks that have one edge more.
-pub(crate) fn step(edges: &[Edge], from: &Row) -> Row
-    requires bounded { AllByRecursion Bounded edges.now }
-    requires low { AllByRecursion (Low 8192) from.now }
-    ensures { result ≡ stepped edges.now from.now }
+pub(crate) fn step(graph: &Graph, from: &Row) -> Row
+    requires { AllByRecursion (Low 8192) from.now }
+    ensures { result ≡ stepped graph.now.edges.items from.now }
 {
-    let mut to = [None; 64];
-    for edge in edges {
+    let mut to = [None; NODES];
+    for edge in &graph.edges {
         extend(from, &mut to, edge);
     }
     to
@@ -52,7 +55,7 @@ pub(crate) fn start_at(node: usize) -> Row
     requires { node < 64 }
     ensures { result ≡ alone node }
 {
-    let mut row = [None; 64];
+    let mut row = [None; NODES];
     row[node] = Some(0);
     row
 }

@@ -1,7 +1,7 @@
 -- Edges within the limits are bounded, and only streams are read and read too. Assumes nothing.
-use Rattle.std.proofs.Common.{ℕ, List, arith}
+use Rattle.std.proofs.Common.{◌≡◌, ℕ, ◌<◌, List, length, get_or, sym, subst, arith}
 use Rattle.std.specs.List.{AllByRecursion}
-use Rattle.std.proofs.ByRecursion.{All-weaker}
+use Rattle.std.proofs.ByRecursion.{All-weaker, All-get_or}
 use Rattle.walks.specs.declared.edge.Edge.{Edge}
 use Rattle.walks.specs.declared.graph.Graph.{Graph}
 use Rattle.walks.specs.Walks.{In}
@@ -23,3 +23,7 @@ module _ (channels streams : ℕ) (es : List Edge) (fits : Fits channels streams
 -- and so the edges of every graph
 pub graph_bounded : (g : Graph) → AllByRecursion Bounded g.edges.items
 graph_bounded g = all_bounded g.channels g.streams g.edges.items g.fits
+
+-- one at a time, as a loop over them has them
+pub edge_bounded : (g : Graph) (es : List Edge) → es ≡ g.edges.items → (i : ℕ) (d : Edge) → i < length es → Bounded (get_or es i d)
+edge_bounded g es is i d l = All-get_or Bounded es i d l (subst (AllByRecursion Bounded) (sym is) (graph_bounded g))

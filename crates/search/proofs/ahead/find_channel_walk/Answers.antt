@@ -1,5 +1,4 @@
 use Rattle.std.proofs.Common.{◌+◌, ap, subst, arith, rules}
-use Rattle.walks.proofs.Through.{all_bounded}
 use Rattle.search.specs.declared.arrival.Target.{Target}
 use Rattle.search.specs.declared.arrival.Arrival.{Arrival}
 use Rattle.search.specs.Rows.{everywhere}
@@ -11,37 +10,35 @@ use Rattle.search.proofs.ahead.find_channel_walk.Goals as goal
 
 pub first_arrival-requires : goal.first_arrival-requires
 first_arrival-requires c = record {
-  bounded = all_bounded c.args.channels c.args.streams c.args.edges.now c.requires.fits;
   low = low_everywhere;
-  few = omega (arith, c.requires.fits.few_streams);
-  nodes = omega (arith, ap (λ (t : Target). t.end) c.channels.ensures, c.requires.fits.few_channels);
-  light = omega (arith, ap (λ (t : Target). t.over) c.channels.ensures);
+  few = omega (arith, c.args.graph.now.fits.few_streams);
+  nodes = omega (arith, ap (λ (t : Target). t.end) c.channels-target.ensures, c.args.graph.now.fits.few_channels);
+  light = omega (arith, ap (λ (t : Target). t.over) c.channels-target.ensures);
 }
 
 pub returns-in_err-found : goal.returns-in_err-found
 returns-in_err-found c =
     rw c.from_residual.ensures (
-      missed_settled c.args.channels c.args.streams c.args.edges.now c.requires.fits c.requires.falls
-          (subst (λ (t : Target). Missed c.args.edges.now everywhere t (c.args.streams + 1)) c.channels.ensures c.in_err-found.ensures),
+      missed_settled c.args.graph.now.channels c.args.graph.now.streams c.args.graph.now.edges.items c.args.graph.now.fits c.requires.falls
+          (subst (λ (t : Target). Missed c.args.graph.now.edges.items everywhere t (c.args.graph.now.streams + 1)) c.channels-target.ensures c.in_err-found.ensures),
       search rules,
     )
 
 pub list_walk-requires : goal.list_walk-requires
 list_walk-requires c =
     let f : Arrival = c.in_ok-found.found in
-    let first : First c.args.edges.now everywhere (outside c.args.channels) (c.args.streams + 1) f =
-    subst (λ (t : Target). First c.args.edges.now everywhere t (c.args.streams + 1) f) c.channels.ensures c.in_ok-found.ensures in
+    let first : First c.args.graph.now.edges.items everywhere (outside c.args.graph.now.channels) (c.args.graph.now.streams + 1) f =
+    subst (λ (t : Target). First c.args.graph.now.edges.items everywhere t (c.args.graph.now.streams + 1) f) c.channels-target.ensures c.in_ok-found.ensures in
     record {
-      bounded = all_bounded c.args.channels c.args.streams c.args.edges.now c.requires.fits;
       low = low_everywhere;
-      few = omega (arith, first.within, c.requires.fits.few_streams);
-      space = omega (arith, first.within, c.requires.fits.few_streams, c.requires.space);
-      node = omega (arith, first.at.below, c.requires.fits.few_channels);
-      reached = first_reached c.args.edges.now everywhere (outside c.args.channels) (c.args.streams + 1) f first;
+      few = omega (arith, first.within, c.args.graph.now.fits.few_streams);
+      space = omega (arith, first.within, c.args.graph.now.fits.few_streams, c.requires.space);
+      node = omega (arith, first.at.below, c.args.graph.now.fits.few_channels);
+      reached = first_reached c.args.graph.now.edges.items everywhere (outside c.args.graph.now.channels) (c.args.graph.now.streams + 1) f first;
     }
 
 pub returns : goal.returns
-returns c = first_told c.args.channels c.args.streams c.args.edges.now c.requires.fits c.requires.falls c.in_ok-found.found (c.args.streams + 1)
+returns c = first_told c.args.graph.now.channels c.args.graph.now.streams c.args.graph.now.edges.items c.args.graph.now.fits c.requires.falls c.in_ok-found.found (c.args.graph.now.streams + 1)
     c.args.sheet.now c.list_walk.new.sheet
-    (subst (λ (t : Target). First c.args.edges.now everywhere t (c.args.streams + 1) c.in_ok-found.found) c.channels.ensures c.in_ok-found.ensures)
+    (subst (λ (t : Target). First c.args.graph.now.edges.items everywhere t (c.args.graph.now.streams + 1) c.in_ok-found.found) c.channels-target.ensures c.in_ok-found.ensures)
     c.list_walk.ensures

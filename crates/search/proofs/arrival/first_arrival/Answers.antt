@@ -1,28 +1,43 @@
-use Rattle.std.proofs.Common.{◌≡◌, ◌+◌, sym, refl, subst, arith}
+use Rattle.std.proofs.Common.{◌≡◌, ◌-◌, sym, refl, ap, ◌∙◌, subst, arith}
 use Rattle.std.specs.List.{AllByRecursion}
+use Rattle.walks.proofs.Through.{graph_bounded}
 use Rattle.search.specs.Rows.{Low, layer}
-use Rattle.search.proofs.Layers.{layer_low, row_more}
+use Rattle.search.proofs.Layers.{layer_low, row_next}
 use Rattle.search.proofs.Searches.{missed_more, first_at}
 use Rattle.search.proofs.arrival.first_arrival.Goals as goal
 
-pub loop-k-init : goal.loop-k-init
+pub loop-length-init : goal.loop-length-init
 unfolding layer
-loop-k-init c = (refl, λ k l h. absurd (omega arith))
+loop-length-init c = record { some = omega arith; last = refl; missed = λ k l h. absurd (omega arith) }
 
 pub step-row-requires : goal.step-row-requires
-step-row-requires c = record {
-  bounded = c.requires.bounded;
-  low = subst (AllByRecursion (Low 8192)) (sym c.loop-k.invariant.0) (layer_low c.args.edges.now c.requires.bounded c.args.start c.requires.low c.loop-k.k (omega (arith, c.requires.few)));
-}
+step-row-requires c = subst (AllByRecursion (Low 8192)) (sym c.loop-length.invariant.last)
+    (layer_low c.args.graph.now.edges.items (graph_bounded c.args.graph.now) c.args.start c.requires.low (c.loop-length.length - 1) (omega (arith, c.requires.few)))
 
 pub returns-in-Some : goal.returns-in-Some
 returns-in-Some c =
-    first_at c.args.edges.now c.args.start c.args.target c.loop-k.k c.loop-k.invariant.1 c.step-row.result
-    (row_more c.args.edges.now c.args.start c.loop-k.k c.loop-k.row c.step-row.result c.loop-k.invariant.0 c.step-row.ensures)
-    c.args.limit c.in-Some.node c.loop-k-test.true c.in-Some.ensures
+    let es = c.args.graph.now.edges.items in
+    let k = c.loop-length.length in
+    first_at es c.args.start c.args.target k c.loop-length.invariant.some c.loop-length.invariant.missed c.step-row.result
+    (row_next es c.args.start k c.loop-length.row c.step-row.result c.loop-length.invariant.some c.loop-length.invariant.last c.step-row.ensures)
+    c.args.limit c.in-Some.node c.loop-length-test.true c.in-Some.ensures
 
-pub loop-k-preserved : goal.loop-k-preserved
-loop-k-preserved c =
-    let is : c.step-row.result ≡ layer c.args.edges.now c.args.start (c.loop-k.k + 1) =
-    row_more c.args.edges.now c.args.start c.loop-k.k c.loop-k.row c.step-row.result c.loop-k.invariant.0 c.step-row.ensures in
-    (is, missed_more c.args.edges.now c.args.start c.args.target c.loop-k.k c.loop-k.invariant.1 c.step-row.result is c.in_default.ensures)
+pub returns-in_default : goal.returns-in_default
+returns-in_default c =
+    let es = c.args.graph.now.edges.items in
+    let k = c.loop-length.length in
+    λ j l h. missed_more es c.args.start c.args.target k c.loop-length.invariant.some c.loop-length.invariant.missed c.step-row.result
+    (row_next es c.args.start k c.loop-length.row c.step-row.result c.loop-length.invariant.some c.loop-length.invariant.last c.step-row.ensures)
+    c.in_default.ensures j l (omega arith)
+
+pub loop-length-preserved : goal.loop-length-preserved
+loop-length-preserved c =
+    let es = c.args.graph.now.edges.items in
+    let k = c.loop-length.length in
+    let is : c.step-row.result ≡ layer es c.args.start k =
+    row_next es c.args.start k c.loop-length.row c.step-row.result c.loop-length.invariant.some c.loop-length.invariant.last c.step-row.ensures in
+    record {
+      some = omega arith;
+      last = is ∙ ap (layer es c.args.start) (omega arith);
+      missed = λ j l h. missed_more es c.args.start c.args.target k c.loop-length.invariant.some c.loop-length.invariant.missed c.step-row.result is c.in_default.ensures j l (omega arith);
+    }

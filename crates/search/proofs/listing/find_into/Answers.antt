@@ -1,7 +1,12 @@
-use Rattle.std.proofs.Common.{arith}
-use Rattle.std.proofs.ByRecursion.{All-get_or}
-use Rattle.walks.specs.Edges.{Bounded, no_edge}
+use Rattle.std.proofs.Common.{sym, refl, subst, rules}
+use Rattle.std.proofs.lemmas.Iterator.{YieldsList-from_slice}
+use Rattle.std.proofs.lemmas.Iterator.Adapters.{serves_from_places}
+use Rattle.walks.specs.Edges.{Bounded}
+use Rattle.walks.proofs.Through.{edge_bounded}
 use Rattle.search.proofs.listing.find_into.Goals as goal
 
-pub leads_into-requires : goal.leads_into-requires
-leads_into-requires c = record { bounded = All-get_or Bounded c.args.edges.now c.loop-i.i no_edge (omega arith) c.requires.bounded; low = c.requires.low }
+pub find-requires-clause-callable : goal.find-requires-clause-callable
+find-requires-clause-callable c =
+    serves_from_places (YieldsList-from_slice c.args.graph.now.edges.items (search rules)) (λ x q k. search rules) (λ x k l e.
+    let b : Bounded x.now = subst Bounded (sym e) (edge_bounded c.args.graph.now c.args.graph.now.edges.items refl k x.now l) in
+    search rules)

@@ -1,28 +1,24 @@
-use Rattle.std.proofs.Common.{◌+◌, [], get_or, replicate, sym, refl, ◌∙◌, subst, arith}
+use Rattle.std.proofs.Common.{◌≡◌, ◌+◌, sym, refl, subst, arith}
 use Rattle.std.specs.List.{AllByRecursion}
-use Rattle.std.proofs.lemmas.List.{length-set}
-use Rattle.search.specs.Rows.{Low}
-use Rattle.search.proofs.Layers.{layer_low, row_more, layers_none, layers_more}
+use Rattle.walks.proofs.Through.{graph_bounded}
+use Rattle.search.specs.Rows.{Low, layer}
+use Rattle.search.proofs.Layers.{layer_low, row_more, layers_more, layers_all}
 use Rattle.search.proofs.listing.layers.Goals as goal
 
-pub loop-k-init : goal.loop-k-init
-loop-k-init c = (refl, layers_none c.args.edges.now (replicate 34 c.args.start))
+pub loop-next-init : goal.loop-next-init
+unfolding layer
+loop-next-init c = record { last = refl; filled = λ k h. absurd (omega arith) }
 
-pub step-next-requires : goal.step-next-requires
-step-next-requires c = record {
-  bounded = c.requires.bounded;
-  low = subst (AllByRecursion (Low 8192)) (sym (c.loop-k.invariant.1 c.loop-k.k (omega arith)))
-      (layer_low c.args.edges.now c.requires.bounded c.args.start c.requires.low c.loop-k.k (omega (arith, c.requires.few)));
-}
+pub step-row-requires : goal.step-row-requires
+step-row-requires c = subst (AllByRecursion (Low 8192)) (sym c.loop-next.invariant.last)
+    (layer_low c.args.graph.now.edges.items (graph_bounded c.args.graph.now) c.args.start c.requires.low c.loop-next.next-index (omega (arith, c.requires.few)))
 
-pub loop-k-preserved : goal.loop-k-preserved
-loop-k-preserved c = (
-  length-set c.loop-k.rows (c.loop-k.k + 1) c.step-next.result ∙ c.loop-k.invariant.0,
-  layers_more c.args.edges.now c.args.start c.loop-k.k c.loop-k.rows c.step-next.result (omega (arith, c.loop-k.invariant.0, c.requires.few))
-      c.loop-k.invariant.1
-      (row_more c.args.edges.now c.args.start c.loop-k.k (get_or c.loop-k.rows c.loop-k.k []) c.step-next.result
-      (c.loop-k.invariant.1 c.loop-k.k (omega arith)) c.step-next.ensures),
-)
+pub loop-next-preserved : goal.loop-next-preserved
+loop-next-preserved c =
+    let es = c.args.graph.now.edges.items in
+    let k = c.loop-next.next-index in
+    let is : c.step-row.result ≡ layer es c.args.start (k + 1) = row_more es c.args.start k c.loop-next.row c.step-row.result c.loop-next.invariant.last c.step-row.ensures in
+    record { last = is; filled = layers_more es c.args.start k c.loop-next.next-items c.step-row.result (omega arith) c.loop-next.invariant.filled is }
 
 pub returns : goal.returns
-returns c = λ k h. c.loop-k.invariant.1 k (omega arith)
+returns c = layers_all c.args.graph.now.edges.items c.args.start c.args.count c.loop-next.next-items _ (omega arith) (λ k h. c.loop-next.invariant.filled k (omega arith))

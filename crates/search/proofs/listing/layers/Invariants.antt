@@ -1,6 +1,9 @@
-use Rattle.std.proofs.Common.{◌≡◌, [], length, get_or}
-use Rattle.search.specs.Listings.{Layers}
+use Rattle.std.proofs.Common.{◌≡◌, ℕ, ◌+◌, ◌<◌, [], get_or}
+use Rattle.search.specs.Rows.{layer}
 use Rattle.search.proofs.listing.layers.Given as goal
 
-abbrev pub invariant-loop-k : goal.invariant-loop-k
-invariant-loop-k l = (length l.rows ≡ 34) × Layers l.edges (get_or l.initial.rows 0 []) l.k l.rows
+abbrev pub invariant-loop-next : goal.invariant-loop-next
+invariant-loop-next l = record {
+  last : l.row ≡ layer l.graph.edges.items l.fn.start l.next-index;
+  filled : (k : ℕ) → k < l.next-index → get_or l.next-items k [] ≡ layer l.graph.edges.items l.fn.start (k + 1);
+}
