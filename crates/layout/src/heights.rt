@@ -1,13 +1,13 @@
 // Heights: for each node the greatest steep weight of any walk that ends there, where there is one.
 ghost use Rattle.std.specs.Prelude.{◌≡◌, MatchOption, ◌≢◌};
-ghost use Rattle.std.specs.List.{AllByRecursion};
 ghost use Rattle.walks.specs.Edges.{Bounded};
 ghost use Rattle.layout.specs.Climbs.{Low, height_over, topped, climbed, heights, Resting};
 
 use walks::edge::Edge;
+use walks::graph::{Graph, NODES};
 
 // One edge's part in a climb: what it reads lies at least its steep weight above its reader.
-fn raise(from: &[u32; 64], to: &mut [u32; 64], edge: &Edge)
+fn raise(from: &[u32; NODES], to: &mut [u32; NODES], edge: &Edge)
     requires bounded { Bounded edge.now }
     requires low { (Low 1000000 from.now) × (Low 1000000 to.old) }
     ensures { to.new ≡ topped (height_over from.now) to.old edge.now }
@@ -21,27 +21,26 @@ fn raise(from: &[u32; 64], to: &mut [u32; 64], edge: &Edge)
 }
 
 // The heights after one more climb along every edge.
-fn climb(edges: &[Edge], from: &[u32; 64]) -> [u32; 64]
-    requires bounded { AllByRecursion Bounded edges.now }
-    requires low { Low 900000 from.now }
-    ensures { result ≡ climbed edges.now from.now }
+fn climb(graph: &Graph, from: &[u32; NODES]) -> [u32; NODES]
+    // A bound of the numbers of an array differs from call to call, so no type carries it.
+    requires { Low 900000 from.now }
+    ensures { result ≡ climbed graph.now.edges.items from.now }
 {
     let mut to = *from;
-    for edge in edges {
+    for edge in &graph.edges {
         raise(from, &mut to, edge);
     }
     to
 }
 
 // Heights that a climb leaves as they are; none where even the last climb changes them.
-pub(crate) fn resting_heights(edges: &[Edge]) -> Option<[u32; 64]>
-    requires { AllByRecursion Bounded edges.now }
-    ensures { MatchOption result (climbed edges.now (heights edges.now 33) ≢ heights edges.now 33) (λ h. Resting edges.now h) }
+pub(crate) fn resting_heights(graph: &Graph) -> Option<[u32; NODES]>
+    ensures { MatchOption result (climbed graph.now.edges.items (heights graph.now.edges.items 33) ≢ heights graph.now.edges.items 33) (λ h. Resting graph.now.edges.items h) }
 {
-    let mut row = [0; 64];
+    let mut row = [0; NODES];
     // A walk that comes nowhere twice has at most 33 edges, so one climb more tells.
-    for i in 0..34u32 {
-        let next = climb(edges, &row);
+    for _ in 0..34u32 {
+        let next = climb(graph, &row);
         if next == row {
             return Some(row);
         }

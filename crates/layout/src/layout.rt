@@ -1,34 +1,34 @@
 // Leads, ring lengths and an order of evaluation, where there are any.
 ghost use Rattle.std.specs.Option.{MatchOption};
 ghost use Rattle.walks.specs.Walks.{Falling};
-ghost use Rattle.walks.specs.Edges.{graph, Fits};
+ghost use Rattle.walks.specs.Edges.{graph as graph_of};
 ghost use Rattle.layout.specs.Layouts.{Laid};
 
 use crate::heights::resting_heights;
 use crate::order::evaluation_order;
 use crate::rings::{leads_of, ring_lengths};
-use walks::edge::Edge;
+use walks::graph::{Graph, NODES};
 
 // How values are laid out: for each node its lead and its ring's length, and the streams in an order of evaluation.
+// Arrays, since a layout must not fail for want of memory.
 #[derive(Clone, Copy)]
 pub struct Layout {
     // For each node the greatest weight of any walk that ends there.
-    pub leads: [u32; 64],
+    pub leads: [u32; NODES],
     // For each node the length of its ring.
-    pub lengths: [u32; 64],
+    pub lengths: [u32; NODES],
     // The streams by number: what is read at its newest index comes before its reader.
     pub order: [usize; 32],
 }
 
 // The layout of the nodes; none where a closed walk weighs 0 or more.
-pub fn lay_out(edges: &[Edge], channels: usize, streams: usize) -> Option<Layout>
-    requires { Fits channels streams edges.now }
-    ensures { MatchOption result (Falling (graph edges.now) → ⊥) (λ l. Laid channels streams edges.now l) }
+pub fn lay_out(graph: &Graph) -> Option<Layout>
+    ensures { MatchOption result (Falling (graph_of graph.now.edges.items) → ⊥) (λ l. Laid graph.now.channels graph.now.streams graph.now.edges.items l) }
 {
-    let heights = resting_heights(edges)?;
+    let heights = resting_heights(graph)?;
     let leads = leads_of(&heights);
-    let lengths = ring_lengths(edges, &leads);
-    let order = evaluation_order(&heights, channels, streams);
+    let lengths = ring_lengths(graph, &leads);
+    let order = evaluation_order(graph, &heights);
     Some(Layout {
         leads,
         lengths,

@@ -1,11 +1,11 @@
 // Leads, and the lengths of rings by the leads.
 ghost use Rattle.std.specs.Prelude.{◌≡◌};
-ghost use Rattle.std.specs.List.{AllByRecursion};
 ghost use Rattle.walks.specs.Edges.{Bounded};
 ghost use Rattle.layout.specs.Climbs.{Low, topped};
 ghost use Rattle.layout.specs.Sizes.{lead_of, leads_of, span, sizes};
 
 use walks::edge::Edge;
+use walks::graph::{Graph, NODES};
 
 // The lead in a height.
 fn lead_of(height: u32) -> u32
@@ -15,18 +15,14 @@ fn lead_of(height: u32) -> u32
 }
 
 // The leads of all nodes by their heights.
-pub(crate) fn leads_of(heights: &[u32; 64]) -> [u32; 64]
+pub(crate) fn leads_of(heights: &[u32; NODES]) -> [u32; NODES]
     ensures { result ≡ leads_of heights.now }
 {
-    let mut leads = [0; 64];
-    for s in 0..64 {
-        leads[s] = lead_of(heights[s]);
-    }
-    leads
+    heights.map(lead_of)
 }
 
 // One edge's part in the lengths of rings: what it reads is kept until it has been read.
-fn widen(lengths: &mut [u32; 64], edge: &Edge, leads: &[u32; 64])
+fn widen(lengths: &mut [u32; NODES], edge: &Edge, leads: &[u32; NODES])
     requires bounded { Bounded edge.now }
     requires low { Low 1000000 leads.now }
     ensures { lengths.new ≡ topped (span leads.now) lengths.old edge.now }
@@ -37,13 +33,12 @@ fn widen(lengths: &mut [u32; 64], edge: &Edge, leads: &[u32; 64])
 }
 
 // How many values each node's ring keeps.
-pub(crate) fn ring_lengths(edges: &[Edge], leads: &[u32; 64]) -> [u32; 64]
-    requires bounded { AllByRecursion Bounded edges.now }
-    requires low { Low 1000000 leads.now }
-    ensures { result ≡ sizes edges.now leads.now }
+pub(crate) fn ring_lengths(graph: &Graph, leads: &[u32; NODES]) -> [u32; NODES]
+    requires { Low 1000000 leads.now }
+    ensures { result ≡ sizes graph.now.edges.items leads.now }
 {
-    let mut lengths = [1; 64];
-    for edge in edges {
+    let mut lengths = [1; NODES];
+    for edge in &graph.edges {
         widen(&mut lengths, edge, leads);
     }
     lengths

@@ -2,5 +2,6 @@ use Rattle.std.proofs.Common.{◌≡◌, ◌-◌, ◌<◌}
 use Rattle.layout.specs.Climbs.{heights}
 use Rattle.layout.proofs.heights.resting_heights.Given as goal
 
-abbrev pub invariant-loop-i : goal.invariant-loop-i
-invariant-loop-i l = (l.row ≡ heights l.edges l.i) × (0 < l.i → heights l.edges l.i ≡ heights l.edges (l.i - 1) → ⊥)
+abbrev pub invariant-loop : goal.invariant-loop
+invariant-loop l =
+    (l.row ≡ heights l.graph.edges.items l.counter) × (0 < l.counter → heights l.graph.edges.items l.counter ≡ heights l.graph.edges.items (l.counter - 1) → ⊥)
