@@ -14,8 +14,7 @@ use Rattle.walks.specs.Walks.{In, Walk, weigh, at, Apart, Rising, Falling, Settl
 use Rattle.walks.specs.Edges as plain
 use Rattle.walks.proofs.Cut.{all_in, Last, last}
 use Rattle.schedule.specs.Graphs.{channel, graph, told, IsChannel}
-use Rattle.schedule.specs.Edges.{InOrder, Valid, node_by, node, edge, edges}
-use Rattle.schedule.proofs.Standing.{Stands, all_stand}
+use Rattle.schedule.specs.Edges.{Valid, Stands, Orderly, node_by, node, edge, edges}
 use Rattle.schedule.proofs.Placing.{node_one}
 
 pub in_map : {X Y : Type 0} (f : X → Y) (x : X) (xs : List X) → In x xs → In (f x) (map f xs)
@@ -28,9 +27,9 @@ from_map f y [] m = absurd m
 from_map f y (x ∷ xs) (inl e) = (x, inl refl, e)
 from_map f y (x ∷ xs) (inr m) = let (z, i, e) = from_map f y xs m in (z, inr i, e)
 
-module _ (rs : List Entry) (o : InOrder rs) where
+module _ (rs : List Entry) (o : Orderly rs) where
   pub stands : (r : Reference) → In r (references [] rs) → Stands rs r
-  stands r m = all_in (Stands rs) (references [] rs) r (all_stand rs o) m
+  stands r m = all_in (Stands rs) (references [] rs) r o.stand m
 
   -- ---- from references to edges
   pub up : (a b : Id) (v : List Reference) → Walk (graph rs) a v b → Walk (plain.graph (edges rs)) (node rs a) (map (edge rs) v) (node rs b)

@@ -5,30 +5,24 @@ use Rattle.std.proofs.lemmas.Option.{slice_get-get_or}
 use Rattle.std.proofs.lemmas.List.{get_or-map, length-map}
 use Rattle.syntax.specs.declared.record.Record.{Record}
 use Rattle.syntax.specs.Entries.{Entry, entry_of}
-use Rattle.syntax.specs.Entries as entry
-use Rattle.syntax.specs.Written.{Small}
 use Rattle.references.specs.declared.reference.Id.{Id}
 use Rattle.references.specs.References.{position}
 use Rattle.schedule.specs.Graphs.{opening_count, record_at, openings}
-
-few_in : (r : Entry) → Small r → opening_count (Some r) ≤ 64
-few_in (entry.channel t) s = omega arith
-few_in (entry.stream t vs e) s = s.0
-few_in (entry.rule g es) s = omega arith
-
-few_at : (rs : List Entry) → AllByRecursion Small rs → (n : ℕ) → opening_count (slice_get rs n) ≤ 64
-few_at [] all n = omega arith
-few_at (r ∷ rs) all zero = few_in r all.0
-few_at (r ∷ rs) all (suc n) = few_at rs all.1 n
+use Rattle.schedule.specs.Edges.{Opens}
 
 -- no record has more than 64 opening values
-pub openings_few : (rs : List Entry) (id : Id) → AllByRecursion Small rs → openings rs id ≤ 64
+pub openings_few : (rs : List Entry) (id : Id) → AllByRecursion Opens rs → openings rs id ≤ 64
 unfolding openings
 openings_few rs id all = go (position id.kind id.number rs)
   where
+    at : (ts : List Entry) → AllByRecursion Opens ts → (n : ℕ) → opening_count (slice_get ts n) ≤ 64
+    at [] all n = omega arith
+    at (r ∷ ts) all zero = all.0
+    at (r ∷ ts) all (suc n) = at ts all.1 n
+
     go : (o : Option ℕ) → opening_count (record_at rs o) ≤ 64
     go None = omega arith
-    go (Some n) = few_at rs all n
+    go (Some n) = at rs all n
 
 -- a record that was found has the count of opening values that its id has
 pub openings_found : (xs : List Record) (id : Id) (i : ℕ) (x : Record) → Some i ≡ position id.kind id.number (map entry_of xs) → i < length xs → x ≡ get_or xs i x →

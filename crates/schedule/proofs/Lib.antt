@@ -1,4 +1,5 @@
 mod Filling
+mod Making
 mod Describing
 mod Standing
 mod Placing

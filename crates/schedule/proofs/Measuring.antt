@@ -13,12 +13,12 @@ use Rattle.walks.specs.Edges as plain
 use Rattle.walks.proofs.Cut.{Last, last}
 use Rattle.walks.proofs.Through.{fit_in}
 use Rattle.schedule.specs.Graphs.{stream, graph}
-use Rattle.schedule.specs.Edges.{InOrder, Valid, node_by, node, id_at, edge, edges}
+use Rattle.schedule.specs.Edges.{Valid, Orderly, node_by, node, id_at, edge, edges}
 use Rattle.schedule.specs.Plans.{ring_count, lead_of_kind, lead_by, Measured}
 use Rattle.schedule.proofs.Placing.{node_one, ring_node, all_fit}
 use Rattle.schedule.proofs.Carrying.{in_map, from_map, stands, lead_down}
 
-module _ (rs : List Entry) (o : InOrder rs) (leads : List ℕ)
+module _ (rs : List Entry) (o : Orderly rs) (leads : List ℕ)
     (leading : (s : ℕ) → s < 64 → Lead (plain.graph (edges rs)) s (pos (get_or leads s 0)))
     (settled : Settled (plain.graph (edges rs)) (plain.Channel (count Channel rs))) where
   abbrev lead_of : ℕ → ℕ

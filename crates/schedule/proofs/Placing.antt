@@ -13,10 +13,9 @@ use Rattle.references.specs.References.{references}
 use Rattle.walks.specs.Edges.{Fit, Fits}
 use Rattle.schedule.specs.declared.nodes.Numbering.{Numbering}
 use Rattle.schedule.specs.declared.nodes.Nodes.{Nodes}
-use Rattle.schedule.specs.Edges.{InOrder, Valid, numbered, node_by, id_by, node, id_at, described, no_node, Describes, Near, node_in, told_in, edge_by, edge, edges}
+use Rattle.schedule.specs.Edges.{Valid, Stands, Orderly, numbered, node_by, id_by, node, id_at, described, no_node, Describes, Near, node_in, told_in, edge_by, edge, edges}
 use Rattle.schedule.specs.Plans.{ring_count}
 use Rattle.schedule.proofs.Describing.{openings_few}
-use Rattle.schedule.proofs.Standing.{Stands, all_stand}
 
 -- ---- a node's record
 -- how many records of a kind there are, among so many of each
@@ -63,7 +62,7 @@ ring_node rs q l = elim (dec_lt q (count Channel rs)) [
 ]
 
 -- ---- nodes and edges within the limits
-module _ (rs : List Entry) (o : InOrder rs) where
+module _ (rs : List Entry) (o : Orderly rs) where
   node_kind : (k : Kind) (n : ℕ) → n < count k rs → (node_by (count Channel rs) (count Stream rs) k n < 64) × (n < 64)
   node_kind Channel n l = (omega (arith, o.few Channel), omega (arith, o.few Channel))
   node_kind Stream n l = (omega (arith, o.few Channel, o.few Stream), omega (arith, o.few Stream))
@@ -88,7 +87,7 @@ module _ (rs : List Entry) (o : InOrder rs) where
   }
 
   pub all_near : (ns : Numbering) → ns ≡ numbered rs → AllByRecursion (Near ns) (references [] rs)
-  all_near ns e = subst (λ (n : Numbering). AllByRecursion (Near n) (references [] rs)) (sym e) (All-weaker (Stands rs) (Near (numbered rs)) near (references [] rs) (all_stand rs o))
+  all_near ns e = subst (λ (n : Numbering). AllByRecursion (Near n) (references [] rs)) (sym e) (All-weaker (Stands rs) (Near (numbered rs)) near (references [] rs) o.stand)
 
   fit : (r : Reference) → Stands rs r → Fit (count Channel rs) (count Stream rs) (edge rs r)
   unfolding node
@@ -97,14 +96,14 @@ module _ (rs : List Entry) (o : InOrder rs) where
     reader = (node_kind r.reader.kind r.reader.number s.reader).0;
     read = read_kind r.read.kind r.read.number s.no_rule s.read;
     drop = s.near;
-    opening = openings_few rs r.reader o.small;
+    opening = openings_few rs r.reader o.opens;
   }
 
   pub all_fit : Fits (count Channel rs) (count Stream rs) (edges rs)
   all_fit = record {
     few_channels = o.few Channel;
     few_streams = o.few Stream;
-    edges = All-map (Fit (count Channel rs) (count Stream rs)) (edge rs) (references [] rs) (All-weaker (Stands rs) (λ r. Fit (count Channel rs) (count Stream rs) (edge rs r)) fit (references [] rs) (all_stand rs o));
+    edges = All-map (Fit (count Channel rs) (count Stream rs)) (edge rs) (references [] rs) (All-weaker (Stands rs) (λ r. Fit (count Channel rs) (count Stream rs) (edge rs r)) fit (references [] rs) o.stand);
   }
 
   -- what is told of a record's node is told of the record
@@ -130,4 +129,4 @@ module _ (rs : List Entry) (o : InOrder rs) where
   map_same f g P same (x ∷ xs) all = λ i. same x all.0 i ∷ map_same f g P same xs all.1 i
 
   pub edges_same : (ns : Nodes) → Describes rs ns → map (edge_by ns) (references [] rs) ≡ edges rs
-  edges_same ns d = map_same (edge_by ns) (edge rs) (Stands rs) (edge_same ns d) (references [] rs) (all_stand rs o)
+  edges_same ns d = map_same (edge_by ns) (edge rs) (Stands rs) (edge_same ns d) (references [] rs) o.stand

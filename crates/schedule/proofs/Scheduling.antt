@@ -6,6 +6,7 @@ use Rattle.syntax.specs.Entries.{Entry, count}
 use Rattle.references.specs.References.{references}
 use Rattle.walks.specs.declared.edge.Edge.{Edge}
 use Rattle.walks.specs.declared.edge.SheetEntry.{SheetEntry}
+use Rattle.walks.specs.declared.graph.Graph.{Graph}
 use Rattle.walks.specs.Walks.{Settled, Ring}
 use Rattle.walks.specs.Edges as plain
 use Rattle.walks.specs.Edges.{Fits}
@@ -13,7 +14,7 @@ use Rattle.layout.specs.declared.layout.Layout.{Layout}
 use Rattle.layout.specs.Layouts as layouts
 use Rattle.schedule.specs.declared.plan.Plan.{Plan}
 use Rattle.schedule.specs.Graphs.{graph, told, IsChannel}
-use Rattle.schedule.specs.Edges.{InOrder, node, id_at, edge, edges}
+use Rattle.schedule.specs.Edges.{Orderly, Tells, node, id_at, edge, edges}
 use Rattle.schedule.specs.Plans.{ring_count, lead_by, Measured, slots_before, lead_in, length_in, ring_in, Ordered, Planned}
 use Rattle.schedule.specs.Placements.{ring_at, Places}
 use Rattle.schedule.specs.Walking.{BlamesWalk, Weighed}
@@ -23,7 +24,7 @@ use Rattle.schedule.proofs.Measuring.{lead_same, measured}
 use Rattle.schedule.proofs.Placing.{all_fit}
 use Rattle.schedule.proofs.Taking.{slots_same}
 
-module _ (rs : List Entry) (o : InOrder rs) where
+module _ (rs : List Entry) (o : Orderly rs) where
   blames_down : (old new : List SheetEntry) (c : Cause) → BlamesWalk (plain.graph (edges rs)) (plain.Channel (count Channel rs)) plain.told old new c →
       BlamesWalk (graph rs) IsChannel (told rs) old new c
   blames_down old new c (inl (k, is, t)) = inl (k, is, closed_down rs o old new k t)
@@ -72,26 +73,26 @@ module _ (rs : List Entry) (o : InOrder rs) where
         channels_are : p.counts.channels ≡ count Channel rs
         channels_are = ap (λ c. c.channels) places.counts ∙ ec
 
--- numbers and edges that are those of a table, as a call has them
-module _ (rs : List Entry) (o : InOrder rs) (channels streams rules : ℕ) (es : List Edge)
-    (ec : channels ≡ count Channel rs) (es' : streams ≡ count Stream rs) (er : rules ≡ count Rule rs) (ee : es ≡ edges rs) where
-  pub fits_of : Fits channels streams es
-  fits_of =
+module _ (rs : List Entry) (o : Orderly rs) where
+  -- numbers and edges that are those of a table lie within the limits
+  pub fits_of : (channels streams : ℕ) (es : List Edge) → channels ≡ count Channel rs → streams ≡ count Stream rs → es ≡ edges rs → Fits channels streams es
+  fits_of channels streams es ec es' ee =
       subst (λ (x : List Edge). Fits channels streams x) (sym ee)
       (subst (λ (x : ℕ). Fits channels x (edges rs)) (sym es') (subst (λ (x : ℕ). Fits x (count Stream rs) (edges rs)) (sym ec) (all_fit rs o)))
 
-  weighed_of : (old new : List SheetEntry) (r : Result Layout Cause) → Weighed channels streams es old new r → Weighed (count Channel rs) (count Stream rs) (edges rs) old new r
-  weighed_of old new r w =
-      subst (λ (x : List Edge). Weighed (count Channel rs) (count Stream rs) x old new r) ee
-      (subst (λ (x : ℕ). Weighed (count Channel rs) x es old new r) es' (subst (λ (x : ℕ). Weighed x streams es old new r) ec w))
+  module _ (g : Graph) (t : Tells rs g) (old new : List SheetEntry) where
+    weighed_of : (r : Result Layout Cause) → Weighed g.channels g.streams g.edges.items old new r → Weighed (count Channel rs) (count Stream rs) (edges rs) old new r
+    weighed_of r w =
+        subst (λ (x : List Edge). Weighed (count Channel rs) (count Stream rs) x old new r) t.edges
+        (subst (λ (x : ℕ). Weighed (count Channel rs) x g.edges.items old new r) t.streams (subst (λ (x : ℕ). Weighed x g.streams g.edges.items old new r) t.channels w))
 
-  pub blames_of : (old new : List SheetEntry) (c : Cause) → Weighed channels streams es old new (Err c) → BlamesWalk (graph rs) IsChannel (told rs) old new c
-  blames_of old new c w = blames_down rs o old new c (weighed_of old new (Err c) w)
+    pub blames_of : (c : Cause) → Weighed g.channels g.streams g.edges.items old new (Err c) → BlamesWalk (graph rs) IsChannel (told rs) old new c
+    blames_of c w = blames_down rs o old new c (weighed_of (Err c) w)
 
-  pub planned_of : (old new : List SheetEntry) (l : Layout) (p : Plan) → Weighed channels streams es old new (Ok l) → Places l channels streams rules p → (new ≡ old) × Planned rs p
-  planned_of old new l p w places =
-      let v : Weighed (count Channel rs) (count Stream rs) (edges rs) old new (Ok l) = weighed_of old new (Ok l) w in
-      (v.0, planned rs o l v.1 v.2 channels streams rules p ec es' er places)
+    pub planned_of : (rules : ℕ) → rules ≡ count Rule rs → (l : Layout) (p : Plan) → Weighed g.channels g.streams g.edges.items old new (Ok l) → Places l g.channels g.streams rules p → (new ≡ old) × Planned rs p
+    planned_of rules er l p w places =
+        let v : Weighed (count Channel rs) (count Stream rs) (edges rs) old new (Ok l) = weighed_of (Ok l) w in
+        (v.0, planned rs o l v.1 v.2 g.channels g.streams rules p t.channels t.streams er places)
 
 -- where the rings of a plan take too many slots, so do those of the table
 pub overfull : (rs : List Entry) (p : Plan) → Planned rs p → 2048 < p.counts.slots → Overfull rs p.counts.slots

@@ -1,11 +1,11 @@
 -- The references of a table in order stand between records that it has. Assumes nothing.
 use Rattle.std.proofs.Common.{◌≡◌, ℕ, zero, suc, ◌+◌, ◌<◌, ◌≤◌, Bool, true, false, cond, eqb, List, [], ◌∷◌, ◌++◌, map, Ok, Err, sym, refl, ap, ◌∙◌, arith}
 use Rattle.std.specs.List.{AllByRecursion}
-use Rattle.std.proofs.ByRecursion.{All-append}
+use Rattle.std.proofs.ByRecursion.{All-append, All-weaker}
 use Rattle.std.proofs.lemmas.List.{append_assoc}
 use Rattle.std.proofs.lemmas.Bool.{ltb-true, eq-eqb}
 use Rattle.syntax.specs.declared.record.Kind.{Kind}
-use Rattle.syntax.specs.declared.record.Kind.TheVariants.{Channel, Stream, Rule}
+use Rattle.syntax.specs.declared.record.Kind.TheVariants.{Channel, Stream}
 use Rattle.syntax.specs.Entries.{Entry, kind_of, kind_code, count}
 use Rattle.syntax.specs.Entries as entry
 use Rattle.syntax.specs.Passing.{Passed, every, then}
@@ -15,17 +15,8 @@ use Rattle.syntax.specs.Written.{Bounded, Small}
 use Rattle.names.specs.Uses.{Name, channel, stream, Use, uses, gathered, uses_of, uses_in}
 use Rattle.names.specs.Declaring.{declares, named}
 use Rattle.references.specs.declared.reference.Id.{Id}
-use Rattle.references.specs.declared.reference.Reference.{Reference}
 use Rattle.references.specs.References.{refer_name, refer, id_after, references}
-use Rattle.schedule.specs.Edges.{InOrder, Valid}
-
--- a reference between records that there are, from a stream or rule to a channel or stream
-pub record Stands (rs : List Entry) (r : Reference) : Type 0 where
-  pub reader : Valid rs r.reader
-  pub read : Valid rs r.read
-  pub reads : ¬ (r.reader.kind ≡ Channel)
-  pub no_rule : ¬ (r.read.kind ≡ Rule)
-  pub near : r.drop ≤ 63
+use Rattle.schedule.specs.Edges.{InOrder, Valid, Stands, Opens, Orderly}
 
 -- ---- lists
 all_front : {X : Type 0} (P : X → Type 0) (xs ys : List X) → AllByRecursion P (xs ++ ys) → AllByRecursion P xs
@@ -136,5 +127,15 @@ module _ (whole : List Entry) where
       (entry_stands (id_after before r) r refl (counted_here before rest r is) (all_front Known (uses_of r) (uses_in rest) known) small.0)
       (stand_from (before ++ (r ∷ [])) rest (is ∙ sym (append_assoc before (r ∷ []) rest)) (all_back Known (uses_of r) (uses_in rest) known) small.1)
 
-pub all_stand : (rs : List Entry) → InOrder rs → AllByRecursion (Stands rs) (references [] rs)
-all_stand rs o = stand_from rs [] rs refl (every_all (named (count Channel rs) (count Stream rs)) (uses_in rs) o.named) o.small
+-- records in order are orderly
+pub orderly : (rs : List Entry) → InOrder rs → Orderly rs
+orderly rs o = record {
+  few = o.few;
+  opens = All-weaker Small Opens opens_few rs o.small;
+  stand = stand_from rs [] rs refl (every_all (named (count Channel rs) (count Stream rs)) (uses_in rs) o.named) o.small;
+}
+  where
+    opens_few : (r : Entry) → Small r → Opens r
+    opens_few (entry.channel t) s = omega arith
+    opens_few (entry.stream t vs e) s = s.0
+    opens_few (entry.rule g es) s = omega arith

@@ -10,10 +10,11 @@ use Rattle.syntax.specs.Entries.{Entry, count}
 use Rattle.references.specs.declared.reference.Id.{Id}
 use Rattle.walks.proofs.Unique.{lead_one, ring_one}
 use Rattle.schedule.specs.Graphs.{stream, graph}
-use Rattle.schedule.specs.Edges.{InOrder, Valid, id_at}
+use Rattle.schedule.specs.Edges.{InOrder, Orderly, Valid, id_at}
 use Rattle.schedule.specs.Plans.{ring_count, lead_of_kind, lead_by, Measured, slots_before, Takes}
 use Rattle.schedule.proofs.Carrying.{stands}
 use Rattle.schedule.proofs.Placing.{ring_node}
+use Rattle.schedule.proofs.Standing.{orderly}
 
 -- lengths that agree below m add up to one sum
 pub slots_same : (f g : ℕ → ℕ) (m : ℕ) → ((q : ℕ) → q < m → f q ≡ g q) → slots_before f m ≡ slots_before g m
@@ -25,7 +26,7 @@ slots_same f g m same = ap sum (ext_get_or 0 (map f (range_with_len 0 m)) (map g
 pub slots_more : (f : ℕ → ℕ) (q : ℕ) → slots_before f (q + 1) ≡ slots_before f q + f q
 slots_more f q = ap sum (map-range_with_len_more f 0 q q (omega arith)) ∙ sum_by_push (λ x. x) (map f (range_with_len 0 q)) (f q)
 
-module _ (rs : List Entry) (o : InOrder rs) (lead lead' length length' : ℕ → ℕ) (k : Measured rs lead length) (l : Measured rs lead' length') where
+module _ (rs : List Entry) (o : Orderly rs) (lead lead' length length' : ℕ → ℕ) (k : Measured rs lead length) (l : Measured rs lead' length') where
   lead_agrees : (id : Id) → Valid rs id → lead_by lead id ≡ lead_by lead' id
   lead_agrees id valid = go id.kind id.number valid
     where
@@ -41,4 +42,4 @@ module _ (rs : List Entry) (o : InOrder rs) (lead lead' length length' : ℕ →
 
 pub takes_one : (rs : List Entry) → InOrder rs → (z z' : ℕ) → Takes rs z → Takes rs z' → z ≡ z'
 takes_one rs o z z' t u =
-    t.total ∙ slots_same t.length u.length (ring_count rs) (lengths_agree rs o t.lead u.lead t.length u.length t.measured u.measured) ∙ sym u.total
+    t.total ∙ slots_same t.length u.length (ring_count rs) (lengths_agree rs (orderly rs o) t.lead u.lead t.length u.length t.measured u.measured) ∙ sym u.total

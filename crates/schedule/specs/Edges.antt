@@ -1,6 +1,7 @@
 -- The references of a table as edges between numbered nodes: the channels by number, then the streams, then the rules. Assumes nothing.
-use Rattle.std.specs.Prelude.{◌≡◌, ℕ, ◌+◌, ◌-◌, ◌<◌, ◌≤◌, cond, List, [], map, Ok, nat_lt, slice_index_or}
-use Rattle.std.specs.List.{AllByRecursion}
+use Rattle.std.specs.Prelude.{◌≡◌, ℕ, ◌+◌, ◌-◌, ◌<◌, ◌≤◌, cond, List, [], map, Some, Ok, nat_lt, slice_index_or}
+use Rattle.std.specs.Coded.{→_prop, le_prop}
+use Rattle.std.specs.List.{AllByRecursion, AllByRecursion-prop}
 use Rattle.syntax.specs.declared.record.Kind.{Kind}
 use Rattle.syntax.specs.declared.record.Kind.TheVariants.{Channel, Stream, Rule}
 use Rattle.syntax.specs.Entries.{Entry, count, limit}
@@ -10,10 +11,11 @@ use Rattle.references.specs.declared.reference.Id.{Id}
 use Rattle.references.specs.declared.reference.Reference.{Reference}
 use Rattle.references.specs.References.{references}
 use Rattle.walks.specs.declared.edge.Edge.{Edge}
+use Rattle.walks.specs.declared.graph.Graph.{Graph}
 use Rattle.schedule.specs.declared.nodes.Node.{Node}
 use Rattle.schedule.specs.declared.nodes.Nodes.{Nodes}
 use Rattle.schedule.specs.declared.nodes.Numbering.{Numbering}
-use Rattle.schedule.specs.Graphs.{openings, number_of, told}
+use Rattle.schedule.specs.Graphs.{opening_count, openings, number_of, told}
 
 -- what reading and the check of names show: the limits hold, and every name is declared
 pub record InOrder (rs : List Entry) : Type 0 where
@@ -24,6 +26,24 @@ pub record InOrder (rs : List Entry) : Type 0 where
 -- there is a record with the id
 abbrev pub Valid : List Entry → Id → Type 0
 Valid rs id = id.number < count id.kind rs
+
+-- a reference between records that there are, from a stream or rule to a channel or stream
+pub record Stands (rs : List Entry) (r : Reference) : Type 0 where
+  pub reader : Valid rs r.reader
+  pub read : Valid rs r.read
+  pub reads : ¬ (r.reader.kind ≡ Channel)
+  pub no_rule : ¬ (r.read.kind ≡ Rule)
+  pub near : r.drop ≤ 63
+
+-- a record has at most 64 opening values
+abbrev pub Opens : Entry → Type 0
+Opens r = opening_count (Some r) ≤ 64
+
+-- what a schedule needs of records in order: there are no more of a kind than its limit, none has too many opening values, and references stand between them
+pub record Orderly (rs : List Entry) : Type 0 where
+  pub few : (k : Kind) → count k rs ≤ limit k
+  pub opens : AllByRecursion Opens rs
+  pub stand : AllByRecursion (Stands rs) (references [] rs)
 
 -- how many channels and streams there are
 abbrev pub numbered : List Entry → Numbering
@@ -87,3 +107,26 @@ edge rs r = record { entry = told rs r; reader = node rs r.reader; read = node r
 
 abbrev pub edges : List Entry → List Edge
 edges rs = map (edge rs) (references [] rs)
+
+-- the graph of a table
+pub record Tells (rs : List Entry) (g : Graph) : Type 0 where
+  pub channels : g.channels ≡ count Channel rs
+  pub streams : g.streams ≡ count Stream rs
+  pub edges : g.edges.items ≡ edges rs
+
+-- ---- records are orderly in one way at most
+Stands-prop : (rs : List Entry) (r : Reference) → IsProp (Stands rs r)
+Stands-prop rs r a b = λ i. record {
+  reader = le_prop a.reader b.reader i;
+  read = le_prop a.read b.read i;
+  reads = →_prop (λ x y. absurd x) a.reads b.reads i;
+  no_rule = →_prop (λ x y. absurd x) a.no_rule b.no_rule i;
+  near = le_prop a.near b.near i;
+}
+
+pub Orderly-prop : (rs : List Entry) → IsProp (Orderly rs)
+Orderly-prop rs a b = λ i. record {
+  few = λ k. le_prop (a.few k) (b.few k) i;
+  opens = AllByRecursion-prop Opens (λ r. le_prop) rs a.opens b.opens i;
+  stand = AllByRecursion-prop (Stands rs) (Stands-prop rs) (references [] rs) a.stand b.stand i;
+}

@@ -2,14 +2,15 @@
 ghost use Rattle.std.specs.Prelude.{◌≡◌, map, IfOk};
 ghost use Rattle.std.specs.List.{AllByRecursion};
 ghost use Rattle.syntax.specs.Entries.{entry_of};
-ghost use Rattle.schedule.specs.Edges.{InOrder, Near, edge_by, edges};
+ghost use Rattle.schedule.specs.Edges.{Near, Tells, edge_by};
 
 use crate::nodes::Nodes;
+use crate::ordered::OrderedRecords;
 use references::listing::list_references;
 use references::reference::Reference;
 use std::alloc::{AllocError, Global};
-use syntax::record::Record;
 use walks::edge::{Edge, SheetEntry};
+use walks::graph::Graph;
 
 // A reference as an edge.
 fn make_edge(nodes: &Nodes, r: &Reference) -> Edge
@@ -33,25 +34,29 @@ fn make_edge(nodes: &Nodes, r: &Reference) -> Edge
 
 // References as edges, one for one.
 fn make_edges(
-    heap: Global,
+    alloc: Global,
     references: &[Reference],
     nodes: &Nodes,
 ) -> Result<Vec<Edge>, AllocError>
     requires { AllByRecursion (Near nodes.now.numbering) references.now }
     ensures { IfOk result (λ v. v.items ≡ map (edge_by nodes.now) references.now) }
 {
-    let mut edges = Vec::new(heap);
-    for r in references {
-        edges.push(make_edge(nodes, r))?;
-    }
-    Ok(edges)
+    references
+        .iter()
+        .map(|r| make_edge(nodes, r))
+        .collect(alloc)
 }
 
-// The references of a table as edges, in reading order.
-pub(crate) fn list_edges(heap: Global, records: &[Record]) -> Result<Vec<Edge>, AllocError>
-    requires { InOrder (map entry_of records.now) }
-    ensures { IfOk result (λ v. v.items ≡ edges (map entry_of records.now)) }
+// The references of a table as the edges of a graph, in reading order.
+pub(crate) fn make_graph(alloc: Global, ordered: &OrderedRecords) -> Result<Graph, AllocError>
+    ensures { IfOk result (Tells (map entry_of ordered.now.records.items)) }
 {
-    let references = list_references(heap, records)?;
-    make_edges(heap, &references, &Nodes::new(records))
+    let nodes = Nodes::new(ordered);
+    let references = list_references(alloc, &ordered.records)?;
+    let edges = make_edges(alloc, &references, &nodes)?;
+    Ok(Graph {
+        channels: nodes.numbering.channels,
+        streams: nodes.numbering.streams,
+        edges,
+    })
 }

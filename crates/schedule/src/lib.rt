@@ -3,5 +3,6 @@
 
 mod edges;
 mod nodes;
+pub mod ordered;
 pub mod plan;
 mod walking;

@@ -1,14 +1,15 @@
 // Records as the nodes of a graph: the channels by number, then the streams, then the rules.
-ghost use Rattle.std.specs.Prelude.{◌≡◌, ℕ, ◌<◌, map, Some, slice_index_or};
-ghost use Rattle.std.specs.List.{AllByRecursion};
+ghost use Rattle.std.specs.Prelude.{◌≡◌, ◌<◌, map, Some};
 ghost use Rattle.syntax.specs.Entries.{entry_of};
-ghost use Rattle.syntax.specs.Written.{Small};
-ghost use Rattle.schedule.specs.Graphs.{opening_count, openings};
-ghost use Rattle.schedule.specs.Edges.{InOrder, numbered, node_by, id_by, described, id_at, no_node, Describes};
+ghost use Rattle.schedule.specs.Graphs.{opening_count};
+ghost use Rattle.schedule.specs.Edges.{numbered, node_by, id_by, described, Describes};
 
+use crate::ordered::OrderedRecords;
 use references::numbering::record_number;
 use references::reference::Id;
+use std::array;
 use syntax::record::{Kind, Record, count};
+use walks::graph::NODES;
 
 // How many channels and streams a table has, by which its nodes are numbered.
 #[derive(Clone, Copy)]
@@ -18,7 +19,7 @@ pub(crate) struct Numbering {
 }
 
 // What an edge tells of a record at either end.
-#[derive(Clone, Copy)]
+#[derive(Clone, Copy, Default)]
 pub(crate) struct Node {
     // Its number among all records.
     pub(crate) number: usize,
@@ -26,11 +27,12 @@ pub(crate) struct Node {
     pub(crate) opening: u8,
 }
 
-// The nodes of a table: how they are numbered, and what an edge tells of each.
+// The nodes of a table: how they are numbered, and what an edge tells of each, looked up once.
+// An array, since their number is fixed.
 #[derive(Clone, Copy)]
 pub(crate) struct Nodes {
     pub(crate) numbering: Numbering,
-    pub(crate) told: [Node; 64],
+    pub(crate) told: [Node; NODES],
 }
 
 impl Numbering {
@@ -85,56 +87,31 @@ fn openings_of(r: &Record) -> usize
     ensures { result ≡ opening_count (Some (entry_of r.now)) }
 {
     match r {
-        Record::Channel(_) => 0,
         Record::Stream(stream) => stream.opening.len(),
-        Record::Rule(_) => 0,
-    }
-}
-
-// How many opening values the record with an id has.
-fn count_openings(records: &[Record], id: Id) -> usize
-    ensures { result ≡ openings (map entry_of records.now) id }
-{
-    match record_number(records, id) {
-        None => 0,
-        Some(i) => openings_of(&records[i]),
+        Record::Channel(_) | Record::Rule(_) => 0,
     }
 }
 
 // What an edge tells of the record with an id.
-fn describe(records: &[Record], id: Id) -> Node
-    requires { AllByRecursion Small (map entry_of records.now) }
-    ensures { result ≡ described (map entry_of records.now) id }
+fn describe(ordered: &OrderedRecords, id: Id) -> Node
+    ensures { result ≡ described (map entry_of ordered.now.records.items) id }
 {
-    let number = record_number(records, id).unwrap_or(0);
-    let opening = count_openings(records, id) as u8;
-    Node { number, opening }
-}
-
-// What an edge tells of each node.
-fn describe_nodes(records: &[Record], numbering: Numbering) -> [Node; 64]
-    requires order { InOrder (map entry_of records.now) }
-    requires numbered { numbering ≡ numbered (map entry_of records.now) }
-    ensures { (m : ℕ) → m < 64 → slice_index_or result m no_node ≡ described (map entry_of records.now) (id_at (map entry_of records.now) m) }
-{
-    let mut nodes = [Node {
-        number: 0,
-        opening: 0,
-    }; 64];
-    for m in 0..64 {
-        nodes[m] = describe(records, numbering.id(m));
+    match record_number(&ordered.records, id) {
+        Some(number) => Node {
+            number,
+            opening: openings_of(&ordered.records[number]) as u8,
+        },
+        None => Node::default(),
     }
-    nodes
 }
 
 impl Nodes {
     // The nodes of a table.
-    pub(crate) fn new(records: &[Record]) -> Nodes
-        requires { InOrder (map entry_of records.now) }
-        ensures { Describes (map entry_of records.now) result }
+    pub(crate) fn new(ordered: &OrderedRecords) -> Nodes
+        ensures { Describes (map entry_of ordered.now.records.items) result }
     {
-        let numbering = Numbering::new(records);
-        let told = describe_nodes(records, numbering);
+        let numbering = Numbering::new(&ordered.records);
+        let told = array::from_fn(|m| describe(ordered, numbering.id(m)));
         Nodes { numbering, told }
     }
 }

@@ -1,24 +1,25 @@
 // The plan of a table's values: where its rings lie, and in what order streams are evaluated.
-ghost use Rattle.std.specs.Prelude.{◌+◌, ◌≤◌, map, length};
+ghost use Rattle.std.specs.Prelude.{◌≤◌, map, length};
 ghost use Rattle.syntax.specs.Entries.{entry_of};
-ghost use Rattle.schedule.specs.Edges.{InOrder};
 ghost use Rattle.schedule.specs.Placements.{Consecutive, Places};
 ghost use Rattle.schedule.specs.Scheduling.{Scheduled};
 
-use crate::edges::list_edges;
+use crate::edges::make_graph;
+use crate::ordered::OrderedRecords;
 use crate::walking::weigh_walks;
 use faults::cause::Cause;
 use layout::layout::Layout;
 use std::alloc::Global;
-use syntax::record::{Kind, Record, count};
+use syntax::record::{Kind, count};
 use syntax::stop::Stop;
 use walks::edge::SheetEntry;
+use walks::graph::{Graph, NODES};
 
 // How many slots the rings of a table take at most.
 const MOST_SLOTS: usize = 2048;
 
 // How many records of each kind a table has, and how many slots its rings take.
-#[derive(Clone, Copy)]
+#[derive(Clone, Copy, Debug, PartialEq, Eq)]
 pub struct Counts {
     pub channels: usize,
     pub streams: usize,
@@ -27,18 +28,19 @@ pub struct Counts {
 }
 
 // Where a ring lies: its first slot, and how many slots it has.
-#[derive(Clone, Copy)]
+#[derive(Clone, Copy, Debug, Default, PartialEq, Eq)]
 pub struct Ring {
     pub base: usize,
     pub length: usize,
 }
 
 // The plan of a table. Rings are numbered as records are: the channels first, then the streams.
+// Arrays, as in the layout that it is made from.
 #[derive(Clone, Copy)]
 pub struct Plan {
     pub counts: Counts,
     // The lead of each record that has a ring, by the ring's number.
-    pub leads: [u32; 64],
+    pub leads: [u32; NODES],
     // The streams by number, in an order of evaluation.
     pub order: [usize; 32],
     pub rings: [Ring; 48],
@@ -52,15 +54,16 @@ pub(crate) struct Placed {
 }
 
 // Places so many rings of the given lengths one after another.
-fn place_rings(lengths: &[u32; 64], count: usize) -> Placed
+fn place_rings(lengths: &[u32; NODES], count: usize) -> Placed
     requires { count ≤ 48 }
     ensures { Consecutive lengths.now count result }
 {
-    let mut rings = [Ring { base: 0, length: 0 }; 48];
+    let mut rings = [Ring::default(); 48];
     let mut slots = 0;
-    for q in 0..count {
+    // By number, since a proof learns nothing of what is written through a zip.
+    for (q, ring) in rings[..count].iter_mut().enumerate() {
         let length = lengths[q] as usize;
-        rings[q] = Ring {
+        *ring = Ring {
             base: slots,
             length,
         };
@@ -69,16 +72,15 @@ fn place_rings(lengths: &[u32; 64], count: usize) -> Placed
     Placed { rings, slots }
 }
 
-// The plan that a layout gives so many records of each kind.
-fn lay_plan(layout: &Layout, channels: usize, streams: usize, rules: usize) -> Plan
-    requires { (channels ≤ 16) × (streams ≤ 32) }
-    ensures { Places layout.now channels streams rules result }
+// The plan that a layout of a graph gives, with so many rules.
+fn lay_plan(layout: &Layout, graph: &Graph, rules: usize) -> Plan
+    ensures { Places layout.now graph.now.channels graph.now.streams rules result }
 {
-    let Placed { rings, slots } = place_rings(&layout.lengths, channels + streams);
+    let Placed { rings, slots } = place_rings(&layout.lengths, graph.channels + graph.streams);
     Plan {
         counts: Counts {
-            channels,
-            streams,
+            channels: graph.channels,
+            streams: graph.streams,
             rules,
             slots,
         },
@@ -89,17 +91,17 @@ fn lay_plan(layout: &Layout, channels: usize, streams: usize, rules: usize) -> P
 }
 
 // The plan of a table in order, or why there is none; a walk to blame is then told in the sheet's first entries.
-pub fn make_plan(heap: Global, records: &[Record], sheet: &mut [SheetEntry]) -> Result<Plan, Stop>
-    requires order { InOrder (map entry_of records.now) }
-    requires space { 33 ≤ length sheet.old }
-    ensures { Scheduled (map entry_of records.now) sheet.old sheet.new result }
+pub fn make_plan(
+    alloc: Global,
+    ordered: &OrderedRecords,
+    sheet: &mut [SheetEntry],
+) -> Result<Plan, Stop>
+    requires { 33 ≤ length sheet.old }
+    ensures { Scheduled (map entry_of ordered.now.records.items) sheet.old sheet.new result }
 {
-    let edges = list_edges(heap, records)?;
-    let channels = count(records, Kind::Channel);
-    let streams = count(records, Kind::Stream);
-    let rules = count(records, Kind::Rule);
-    let layout = weigh_walks(&edges, channels, streams, sheet)?;
-    let plan = lay_plan(&layout, channels, streams, rules);
+    let graph = make_graph(alloc, ordered)?;
+    let layout = weigh_walks(&graph, sheet)?;
+    let plan = lay_plan(&layout, &graph, count(&ordered.records, Kind::Rule));
     if plan.counts.slots > MOST_SLOTS {
         return Err(Stop::Refused(Cause::Slots(plan.counts.slots)));
     }

@@ -1,17 +1,15 @@
-use Rattle.std.proofs.Common.{[], ◌∷◌, ◌++◌, map, sym, ap, ◌∙◌}
+use Rattle.std.proofs.Common.{sym, subst, rules}
 use Rattle.std.proofs.ByRecursion.{All-get_or}
-use Rattle.std.proofs.lemmas.List.{map_more, take_all}
-use Rattle.schedule.specs.Edges.{Near, edge_by}
+use Rattle.std.proofs.lemmas.Iterator.{YieldsList-from_slice}
+use Rattle.std.proofs.lemmas.Iterator.Adapters.{serves_from_places}
+use Rattle.schedule.specs.Edges.{Near}
 use Rattle.schedule.proofs.edges.make_edges.Goals as goal
 
-pub make_edge-requires : goal.make_edge-requires
-make_edge-requires c = All-get_or (Near c.args.nodes.now.numbering) c.args.references.now c.loop-r.r-index _ c.loop-r-test.true c.requires
-
-pub loop-r-preserved : goal.loop-r-preserved
-loop-r-preserved c =
-    c.in_ok-push.ensures.items
-    ∙ (λ i. c.loop-r.invariant i ++ (c.make_edge.ensures i ∷ []))
-    ∙ sym (map_more (edge_by c.args.nodes.now) c.args.references.now c.loop-r.r-index _ c.loop-r-test.true)
-
-pub returns : goal.returns
-returns c = c.loop-r.invariant ∙ ap (map (edge_by c.args.nodes.now)) (take_all c.loop-r.r-index c.args.references.now c.loop-r-test.false)
+pub collect-requires-clause-can : goal.collect-requires-clause-can
+collect-requires-clause-can c = (
+  tt,
+  serves_from_places (YieldsList-from_slice c.args.references.now (search rules)) (λ x q k. search rules) (λ x k l e.
+      let near : Near c.args.nodes.now.numbering x.now =
+      subst (Near c.args.nodes.now.numbering) (sym e) (All-get_or (Near c.args.nodes.now.numbering) c.args.references.now k x.now l c.requires) in
+      search rules),
+)

@@ -5,6 +5,9 @@ use Rattle.schedule.proofs.Filling.{Filled}
 use Rattle.schedule.proofs.plan.place_rings.Given as goal
 
 abbrev pub invariant-loop-q : goal.invariant-loop-q
-invariant-loop-q l =
-    Filled (ring_at l.lengths) no_ring l.rings l.q × (length l.rings ≡ 48) ×
-    (l.slots ≡ slots_before (λ j. get_or l.lengths j 0) l.q) × (l.slots ≤ 4294967295 * l.q)
+invariant-loop-q l = record {
+  placed : Filled (ring_at l.lengths) no_ring l.ring-items l.q;
+  long : length l.ring-items ≡ l.count;
+  slots : l.slots ≡ slots_before (λ j. get_or l.lengths j 0) l.q;
+  bound : l.slots ≤ 4294967295 * l.q;
+}

@@ -1,0 +1,13 @@
+// Records that are in order.
+ghost use Rattle.std.specs.Prelude.{map};
+ghost use Rattle.syntax.specs.Entries.{entry_of};
+ghost use Rattle.schedule.specs.Edges.{Orderly, Orderly-prop};
+
+use syntax::record::Record;
+
+// The records of a table, of which no kind has too many and each reference stands between two.
+#[derive(Drop)]
+pub struct OrderedRecords {
+    pub records: Vec<Record>,
+    pub ghost orderly: { Orderly (map entry_of records.items) } by { Orderly-prop (map entry_of records.items) },
+}
