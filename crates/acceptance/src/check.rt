@@ -6,6 +6,7 @@ use crate::rejection::Rejection;
 use crate::table::Table;
 use faults::cause::Cause;
 use names::declared::check_names;
+use schedule::ordered::OrderedRecords;
 use schedule::plan::{Counts, Plan, Ring, make_plan};
 use std::alloc::{AllocError, Global};
 use syntax::record::Record;
@@ -18,38 +19,39 @@ use walks::edge::SheetEntry;
 const LEAST_SHEET: usize = 33;
 
 // The records of a table, with their names and types looked at; or why the bytes write none.
-fn read_checked(heap: Global, bytes: &[u8]) -> Result<Vec<Record>, Stop>
+fn read_checked(alloc: Global, bytes: &[u8]) -> Result<Vec<Record>, Stop>
     ensures { Reads bytes.now result }
 {
-    let records = read_table(heap, bytes)?;
+    let records = read_table(alloc, bytes)?;
     check_names(&records)?;
-    check_types(heap, &records)?;
+    check_types(alloc, &records)?;
     Ok(records)
 }
 
 // The table that the bytes write; or why they write none, with a walk to blame in the sheet's first entries.
-fn accept(heap: Global, bytes: &[u8], sheet: &mut [SheetEntry]) -> Result<Table, Stop>
+fn accept(alloc: Global, bytes: &[u8], sheet: &mut [SheetEntry]) -> Result<Table, Stop>
     ensures { Admits bytes.now sheet.old sheet.new result }
 {
     if sheet.len() < LEAST_SHEET {
         return Err(Stop::Refused(Cause::ShortSheet(sheet.len())));
     }
-    let records = read_checked(heap, bytes)?;
-    let plan = make_plan(heap, &records, sheet)?;
-    let bytes = bytes.to_vec(heap)?;
+    let records = read_checked(alloc, bytes)?;
+    let ordered = OrderedRecords { records };
+    let plan = make_plan(alloc, &ordered, sheet)?;
+    let bytes = bytes.to_vec(alloc)?;
     Ok(Table {
         bytes,
-        records,
+        records: ordered.records,
         plan,
     })
 }
 
 impl Table {
     // The first table, of the byte 01 alone.
-    pub fn new(heap: Global) -> Result<Table, AllocError>
+    pub fn new(alloc: Global) -> Result<Table, AllocError>
         ensures { IfOk result First }
     {
-        let bytes = vec![in heap; 1u8]?;
+        let bytes = vec![in alloc; 1u8]?;
         let counts = Counts {
             channels: 0,
             streams: 0,
@@ -60,9 +62,9 @@ impl Table {
             counts,
             leads: [0; 64],
             order: [0; 32],
-            rings: [Ring { base: 0, length: 0 }; 48],
+            rings: [Ring::default(); 48],
         };
-        let records = Vec::new(heap);
+        let records = Vec::new(alloc);
         Ok(Table {
             bytes,
             records,
@@ -73,14 +75,14 @@ impl Table {
     // Checks the bytes of a table and puts it in this one's place; or says why not, with a walk to blame in the sheet's first entries.
     pub fn check(
         &mut self,
-        heap: Global,
+        alloc: Global,
         bytes: &[u8],
         sheet: &mut [SheetEntry],
     ) -> Result<Counts, Rejection>
         ensures answer { Answers self.old self.new bytes.now sheet.old sheet.new result }
         ensures law { Decided bytes.now sheet.old result }
     {
-        let table = accept(heap, bytes, sheet)?;
+        let table = accept(alloc, bytes, sheet)?;
         let counts = table.plan.counts;
         *self = table;
         Ok(counts)

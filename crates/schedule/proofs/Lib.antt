@@ -1,7 +1,7 @@
 mod Filling
 mod Making
 mod Describing
-mod Standing
+pub mod Standing
 mod Placing
 mod Carrying
 mod Measuring
