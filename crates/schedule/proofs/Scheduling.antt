@@ -14,7 +14,7 @@ use Rattle.layout.specs.declared.layout.Layout.{Layout}
 use Rattle.layout.specs.Layouts as layouts
 use Rattle.schedule.specs.declared.plan.Plan.{Plan}
 use Rattle.schedule.specs.Graphs.{graph, told, IsChannel}
-use Rattle.schedule.specs.Edges.{Orderly, Tells, node, id_at, edge, edges}
+use Rattle.schedule.specs.Edges.{Orderly, IsGraphOf, node, id_at, edge, edges}
 use Rattle.schedule.specs.Plans.{ring_count, lead_by, Measured, slots_before, lead_in, length_in, ring_in, Ordered, Planned}
 use Rattle.schedule.specs.Placements.{ring_at, Places}
 use Rattle.schedule.specs.Walking.{BlamesWalk, Weighed}
@@ -80,7 +80,7 @@ module _ (rs : List Entry) (o : Orderly rs) where
       subst (λ (x : List Edge). Fits channels streams x) (sym ee)
       (subst (λ (x : ℕ). Fits channels x (edges rs)) (sym es') (subst (λ (x : ℕ). Fits x (count Stream rs) (edges rs)) (sym ec) (all_fit rs o)))
 
-  module _ (g : Graph) (t : Tells rs g) (old new : List SheetEntry) where
+  module _ (g : Graph) (t : IsGraphOf rs g) (old new : List SheetEntry) where
     weighed_of : (r : Result Layout Cause) → Weighed g.channels g.streams g.edges.items old new r → Weighed (count Channel rs) (count Stream rs) (edges rs) old new r
     weighed_of r w =
         subst (λ (x : List Edge). Weighed (count Channel rs) (count Stream rs) x old new r) t.edges

@@ -109,7 +109,7 @@ abbrev pub edges : List Entry → List Edge
 edges rs = map (edge rs) (references [] rs)
 
 -- the graph of a table
-pub record Tells (rs : List Entry) (g : Graph) : Type 0 where
+pub record IsGraphOf (rs : List Entry) (g : Graph) : Type 0 where
   pub channels : g.channels ≡ count Channel rs
   pub streams : g.streams ≡ count Stream rs
   pub edges : g.edges.items ≡ edges rs

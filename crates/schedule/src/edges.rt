@@ -2,7 +2,7 @@
 ghost use Rattle.std.specs.Prelude.{◌≡◌, map, IfOk};
 ghost use Rattle.std.specs.List.{AllByRecursion};
 ghost use Rattle.syntax.specs.Entries.{entry_of};
-ghost use Rattle.schedule.specs.Edges.{Near, Tells, edge_by};
+ghost use Rattle.schedule.specs.Edges.{Near, IsGraphOf, edge_by};
 
 use crate::nodes::Nodes;
 use crate::ordered::OrderedRecords;
@@ -49,7 +49,7 @@ fn make_edges(
 
 // The references of a table as the edges of a graph, in reading order.
 pub(crate) fn make_graph(alloc: Global, ordered: &OrderedRecords) -> Result<Graph, AllocError>
-    ensures { IfOk result (Tells (map entry_of ordered.now.records.items)) }
+    ensures { IfOk result (IsGraphOf (map entry_of ordered.now.records.items)) }
 {
     let nodes = Nodes::new(ordered);
     let references = list_references(alloc, &ordered.records)?;

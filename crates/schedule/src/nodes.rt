@@ -28,7 +28,7 @@ pub(crate) struct Node {
 }
 
 // The nodes of a table: how they are numbered, and what an edge tells of each, looked up once.
-// An array, since their number is fixed.
+// An array: a table has no more nodes than this, and no memory is asked for.
 #[derive(Clone, Copy)]
 pub(crate) struct Nodes {
     pub(crate) numbering: Numbering,

@@ -35,7 +35,7 @@ pub struct Ring {
 }
 
 // The plan of a table. Rings are numbered as records are: the channels first, then the streams.
-// Arrays, as in the layout that it is made from.
+// Arrays, since a table whose walks and slots are in order must not want for memory here.
 #[derive(Clone, Copy)]
 pub struct Plan {
     pub counts: Counts,

@@ -14,7 +14,7 @@ pub(crate) type Row = [Option<u32>; NODES];
 
 // What an edge weighs, and 64, so that it is never less than 0.
 pub(crate) fn lift(edge: &Edge) -> u32
-    // Required of each edge, since the definitions speak of an edge as a plain record, and of none by itself.
+    // Required of each edge, since the definitions speak of an edge as a plain record.
     requires { Bounded edge.now }
     ensures { result ≡ lift edge.now }
 {
