@@ -1,2 +1,3 @@
 pub mod Causes
 pub mod Faults
+pub mod Lines

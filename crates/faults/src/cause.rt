@@ -1,9 +1,12 @@
 // The causes of refusals, each with its number and its place.
-ghost use Rattle.std.specs.Prelude.{◌≡◌};
+ghost use Rattle.std.specs.Prelude.{◌≡◌, Some};
 ghost use Rattle.faults.specs.Causes.{number_of, place_of};
+ghost use Rattle.faults.specs.Lines.{refusal_line};
+
+use std::fmt;
 
 // Why a call stops; what a case holds is its place.
-#[derive(Clone, Copy)]
+#[derive(Clone, Copy, Debug, PartialEq, Eq)]
 pub enum Cause {
     // The first byte is not the version 01.
     Version,
@@ -84,27 +87,38 @@ impl Cause {
         ensures { result ≡ place_of self }
     {
         match self {
-            Cause::Version => 0,
-            Cause::Ended(start) => start,
-            Cause::Malformed(byte) => byte,
-            Cause::Limit(passed) => passed,
-            Cause::Undeclared(byte) => byte,
-            Cause::Mistyped(byte) => byte,
-            Cause::Divisor(byte) => byte,
-            Cause::ClosedWalk(references) => references,
-            Cause::ChannelWalk(references) => references,
-            Cause::ShortSheet(length) => length,
-            Cause::Slots(needed) => needed,
-            Cause::OtherTable => 0,
-            Cause::TicksSpent => 0,
-            Cause::NoRow(rows) => rows,
-            Cause::Dark(channel) => usize::from(channel),
-            Cause::OtherType(channel) => usize::from(channel),
-            Cause::SinkFull => 0,
-            Cause::AlarmsDue(due) => due,
-            Cause::NoneDue => 0,
-            Cause::NoStream(stream) => usize::from(stream),
-            Cause::NoValueYet(stream) => usize::from(stream),
+            Cause::Version
+            | Cause::OtherTable
+            | Cause::TicksSpent
+            | Cause::SinkFull
+            | Cause::NoneDue => 0,
+            Cause::Ended(byte)
+            | Cause::Malformed(byte)
+            | Cause::Limit(byte)
+            | Cause::Undeclared(byte)
+            | Cause::Mistyped(byte)
+            | Cause::Divisor(byte) => byte,
+            Cause::ClosedWalk(count)
+            | Cause::ChannelWalk(count)
+            | Cause::ShortSheet(count)
+            | Cause::Slots(count)
+            | Cause::NoRow(count)
+            | Cause::AlarmsDue(count) => count,
+            Cause::Dark(number)
+            | Cause::OtherType(number)
+            | Cause::NoStream(number)
+            | Cause::NoValueYet(number) => usize::from(number),
         }
+    }
+}
+
+// Writes the line that tells the refusal: its number and its place.
+impl fmt::Display for Cause {
+    ghost output = { λ cause. Some (refusal_line cause) };
+
+    fn fmt<W: fmt::Write>(&self, f: &mut fmt::Formatter<W>) -> fmt::Result {
+        let number = self.number();
+        let place = self.place();
+        write!(f, "refused {number} at {place}")
     }
 }

@@ -1,12 +1,14 @@
 // A fault: a cause, the layer that made it, and the layers that it passed.
-ghost use Rattle.std.specs.Prelude.{◌≡◌};
+ghost use Rattle.std.specs.Prelude.{◌≡◌, Some};
 ghost use Rattle.faults.specs.Causes.{number_of, place_of};
 ghost use Rattle.faults.specs.Faults.{made_by, handed_on};
+ghost use Rattle.faults.specs.Lines.{refusal_line};
 
 use crate::cause::Cause;
+use std::fmt;
 
 // The parts of the monitor that can refuse.
-#[derive(Clone, Copy)]
+#[derive(Clone, Copy, Debug, PartialEq, Eq)]
 pub enum Layer {
     Table,
     Panel,
@@ -19,7 +21,7 @@ pub enum Layer {
 }
 
 // Why a call stopped, as its caller sees it.
-#[derive(Clone, Copy)]
+#[derive(Clone, Copy, Debug, PartialEq, Eq)]
 pub struct Fault {
     // Why, with the place.
     pub cause: Cause,
@@ -64,5 +66,15 @@ impl Fault {
         ensures { result ≡ place_of self.cause }
     {
         self.cause.place()
+    }
+}
+
+// Writes the line that tells the refusal, whichever layer made the fault.
+impl fmt::Display for Fault {
+    ghost output = { λ fault. Some (refusal_line fault.cause) };
+
+    fn fmt<W: fmt::Write>(&self, f: &mut fmt::Formatter<W>) -> fmt::Result {
+        let cause = self.cause;
+        write!(f, "{cause}")
     }
 }
