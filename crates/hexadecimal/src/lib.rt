@@ -23,22 +23,19 @@ fn digit(c: u8) -> Option<u8>
 fn byte(high: u8, low: u8) -> Option<u8>
     ensures { result ≡ byte_of high low }
 {
-    match (digit(high), digit(low)) {
-        (Some(a), Some(b)) => Some(16 * a + b),
-        _ => None,
-    }
+    Some(16 * digit(high)? + digit(low)?)
 }
 
 // The bytes that the text writes, two digits each; none where a digit is missing or is no digit.
-pub fn parse_hex(heap: Global, text: &[u8]) -> Result<Option<Vec<u8>>, AllocError>
+pub fn parse_hex(alloc: Global, text: &[u8]) -> Result<Option<Vec<u8>>, AllocError>
     ensures { IfOk result (λ o. option_map vec_items o ≡ bytes_of text.now) }
 {
-    if text.len() % 2 != 0 {
+    let (pairs, []) = text.as_chunks::<2>() else {
         return Ok(None);
-    }
-    let mut bytes = Vec::new(heap);
-    for i in 0..text.len() / 2 {
-        let Some(b) = byte(text[2 * i], text[2 * i + 1]) else {
+    };
+    let mut bytes = Vec::new(alloc);
+    for [high, low] in pairs {
+        let Some(b) = byte(*high, *low) else {
             return Ok(None);
         };
         bytes.push(b)?;
