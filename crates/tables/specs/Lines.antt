@@ -1,11 +1,16 @@
 -- The line that tells an answer. Assumes nothing.
 use Rattle.std.specs.Prelude.{ℕ, List, ◌++◌, Ok, Err, codes, decimal, Result}
 use Rattle.faults.specs.declared.cause.Cause.{Cause}
-use Rattle.faults.specs.Causes.{number_of, place_of}
-use Rattle.syntax.specs.declared.record.Kind.TheVariants.{Channel, Stream, Rule}
-use Rattle.syntax.specs.Entries.{Entry, count}
+use Rattle.faults.specs.Lines.{refusal_line}
+use Rattle.syntax.specs.Entries.{Entry}
+use Rattle.tables.specs.declared.check.Counts.{Counts}
+use Rattle.tables.specs.Checking.{counts_of}
+
+-- how many records of each kind a table has
+abbrev pub counts_line : Counts → List ℕ
+counts_line c =
+    codes "read channels " ++ (decimal c.channels ++ (codes " streams " ++ (decimal c.streams ++ (codes " rules " ++ decimal c.rules))))
 
 abbrev pub line : Result (List Entry) Cause → List ℕ
-line (Ok rs) =
-    codes "read channels " ++ (decimal (count Channel rs) ++ (codes " streams " ++ (decimal (count Stream rs) ++ (codes " rules " ++ decimal (count Rule rs)))))
-line (Err x) = codes "refused " ++ (decimal (number_of x) ++ (codes " at " ++ decimal (place_of x)))
+line (Ok rs) = counts_line (counts_of rs)
+line (Err x) = refusal_line x

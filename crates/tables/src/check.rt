@@ -1,11 +1,11 @@
 // What a table's bytes are: read and typed, with so many records of each kind, or refused.
-ghost use Rattle.std.specs.Prelude.{◌≡◌, IfOk, string_bytes};
+ghost use Rattle.std.specs.Prelude.{◌≡◌, Some, IfOk, string_bytes};
 ghost use Rattle.tables.specs.Checking.{checked, Counted};
-ghost use Rattle.tables.specs.Lines.{line};
+ghost use Rattle.tables.specs.Lines.{counts_line, line};
 
-use faults::cause::Cause;
 use names::declared::check_names;
 use std::alloc::{AllocError, Global};
+use std::fmt;
 use syntax::record::{Kind, count};
 use syntax::stop::Stop;
 use syntax::table::read_table;
@@ -19,13 +19,30 @@ pub struct Counts {
     pub rules: usize,
 }
 
+// Writes the line that tells of a table that was read.
+impl fmt::Display for Counts {
+    ghost output = { λ counts. Some (counts_line counts) };
+
+    fn fmt<W: fmt::Write>(&self, f: &mut fmt::Formatter<W>) -> fmt::Result {
+        let Counts {
+            channels,
+            streams,
+            rules,
+        } = *self;
+        write!(
+            f,
+            "read channels {channels} streams {streams} rules {rules}"
+        )
+    }
+}
+
 // Reads a table, looks at its names and types, and counts its records; or says why the bytes are none.
-pub fn check(heap: Global, bytes: &[u8]) -> Result<Counts, Stop>
+pub fn check(alloc: Global, bytes: &[u8]) -> Result<Counts, Stop>
     ensures { Counted result bytes.now }
 {
-    let records = read_table(heap, bytes)?;
+    let records = read_table(alloc, bytes)?;
     check_names(&records)?;
-    check_types(heap, &records)?;
+    check_types(alloc, &records)?;
     let channels = count(&records, Kind::Channel);
     let streams = count(&records, Kind::Stream);
     let rules = count(&records, Kind::Rule);
@@ -37,23 +54,12 @@ pub fn check(heap: Global, bytes: &[u8]) -> Result<Counts, Stop>
 }
 
 // The line that tells what the bytes are.
-pub fn answer(heap: Global, bytes: &[u8]) -> Result<String, AllocError>
+pub fn answer(alloc: Global, bytes: &[u8]) -> Result<String, AllocError>
     ensures { IfOk result (λ text. string_bytes text ≡ line (checked bytes.now)) }
 {
-    match check(heap, bytes) {
-        Ok(counts) => {
-            let Counts {
-                channels,
-                streams,
-                rules,
-            } = counts;
-            format!(in heap; "read channels {channels} streams {streams} rules {rules}")
-        }
-        Err(Stop::Refused(cause)) => {
-            let number = cause.number();
-            let place = cause.place();
-            format!(in heap; "refused {number} at {place}")
-        }
+    match check(alloc, bytes) {
+        Ok(counts) => format!(in alloc; "{counts}"),
+        Err(Stop::Refused(cause)) => format!(in alloc; "{cause}"),
         Err(Stop::Memory) => Err(AllocError),
     }
 }
