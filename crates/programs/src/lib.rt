@@ -1,0 +1,6 @@
+// What the programs share: how they read their input, tell of it, and end.
+#![tactic(auto)]
+
+pub mod exit;
+pub mod input;
+pub mod vectors;
