@@ -1,4 +1,3 @@
 mod Passing
 mod Beginning
 pub mod Deciding
-mod Telling

@@ -1,9 +1,9 @@
 -- The line that tells an answer of the check. Assumes nothing.
-use Rattle.std.specs.Prelude.{◌≡◌, ℕ, cond, List, [], ◌++◌, length, take, Ok, Err, codes, decimal, Result, ◌==◌}
+use Rattle.std.specs.Prelude.{◌≡◌, ℕ, List, [], ◌++◌, length, take, Ok, Err, codes, decimal, Result}
 use Rattle.std.specs.List.{flat_map}
 use Rattle.faults.specs.declared.cause.Cause.{Cause}
 use Rattle.faults.specs.declared.cause.Cause.TheVariants.{ClosedWalk, ChannelWalk}
-use Rattle.faults.specs.Causes.{number_of, place_of}
+use Rattle.faults.specs.Lines.{refusal_line}
 use Rattle.schedule.specs.declared.plan.Counts.{Counts}
 use Rattle.walks.specs.declared.edge.SheetEntry.{SheetEntry}
 use Rattle.acceptance.specs.declared.rejection.Rejection.{Rejection}
@@ -15,12 +15,14 @@ use Rattle.acceptance.specs.Checking.{Answers, First}
 abbrev pub line : Result Counts Rejection → List ℕ
 line (Ok c) =
     codes "accepted channels " ++ (decimal c.channels ++ (codes " streams " ++ (decimal c.streams ++ (codes " rules " ++ (decimal c.rules ++ (codes " slots " ++ decimal c.slots))))))
-line (Err (Refused f)) = codes "refused " ++ (decimal (number_of f.cause) ++ (codes " at " ++ decimal (place_of f.cause)))
+line (Err (Refused f)) = refusal_line f.cause
 line (Err Memory) = []
 
 -- how many references of a walk a refusal lists in the sheet: as many as its place says where a walk is to blame
 abbrev pub listed_for : Cause → ℕ
-listed_for c = cond (number_of c == number_of (ClosedWalk 0)) (place_of c) (cond (number_of c == number_of (ChannelWalk 0)) (place_of c) 0)
+listed_for (ClosedWalk references) = references
+listed_for (ChannelWalk references) = references
+listed_for _ = 0
 
 abbrev pub listed : Result Counts Rejection → ℕ
 listed (Ok c) = 0
@@ -35,16 +37,20 @@ reference_line e = codes "\nref " ++ (decimal e.reader ++ (codes " " ++ (decimal
 abbrev pub line_and_walk : Result Counts Rejection → List SheetEntry → List ℕ
 line_and_walk r sheet = line r ++ flat_map reference_line (take (listed r) sheet)
 
--- the text is made by `written` from what the check answers of the bytes, asked of a first table with a sheet of 33 entries, and from the sheet after it
-pub record Tells (written : Result Counts Rejection → List SheetEntry → List ℕ) (bytes text : List ℕ) : Type 0 where
+-- the answer and the sheet after it are what the check leaves of the bytes, asked of a first table with a sheet of 33 entries
+pub record Asked (bytes : List ℕ) (answer : Result Counts Rejection) (sheet_after : List SheetEntry) : Type 0 where
   pub before : Table
   pub after : Table
   pub sheet : List SheetEntry
-  pub sheet_after : List SheetEntry
-  pub answer : Result Counts Rejection
   pub first : First before
   pub space : length sheet ≡ 33
   pub answers : Answers before after bytes sheet sheet_after answer
+
+-- the text is made by `written` from what the check answers of the bytes, and from the sheet after it
+pub record Tells (written : Result Counts Rejection → List SheetEntry → List ℕ) (bytes text : List ℕ) : Type 0 where
+  pub answer : Result Counts Rejection
+  pub sheet_after : List SheetEntry
+  pub asked : Asked bytes answer sheet_after
   pub is : text ≡ written answer sheet_after
 
 -- the line of the answer, and the line with the walk

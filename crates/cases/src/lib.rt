@@ -4,12 +4,12 @@
 ghost use Rattle.std.specs.Prelude.{◌≡◌, IfOk};
 ghost use Rattle.cases.specs.Cases.{three_streams, one_stream, TwoStreams, ThreeAhead, FourAhead, OneAhead, NoneAhead, Says, Verdict, AsWorked};
 
+use acceptance::line::BLANK_SHEET;
 use acceptance::rejection::Rejection;
 use acceptance::table::Table;
 use faults::cause::Cause;
 use schedule::plan::Counts;
 use std::alloc::{AllocError, Global};
-use walks::edge::SheetEntry;
 
 // Stream 0 is m3 = [0, 1, 2] ++ m2, and stream 1 is m2 = drop 1 m3, in Word8.
 const TWO_STREAMS: [u8; 20] = [
@@ -53,16 +53,12 @@ fn verdict(answer: Result<Counts, Rejection>) -> Result<Result<usize, Cause>, Al
 }
 
 // The slots of an accepted table, or why the bytes are refused.
-fn judge(heap: Global, bytes: &[u8]) -> Result<Result<usize, Cause>, AllocError>
+fn judge(alloc: Global, bytes: &[u8]) -> Result<Result<usize, Cause>, AllocError>
     ensures { IfOk result (λ v. Verdict bytes.now v) }
 {
-    let mut table = Table::new(heap)?;
-    let mut sheet = [SheetEntry {
-        reader: 0,
-        read: 0,
-        drop: 0,
-    }; 33];
-    let answer = table.check(heap, bytes, &mut sheet);
+    let mut table = Table::new(alloc)?;
+    let mut sheet = BLANK_SHEET;
+    let answer = table.check(alloc, bytes, &mut sheet);
     verdict(answer)
 }
 
@@ -82,14 +78,14 @@ pub struct WalkCases {
 }
 
 // Checks each of the worked tables.
-fn check_all(heap: Global) -> Result<WalkCases, AllocError>
+fn check_all(alloc: Global) -> Result<WalkCases, AllocError>
     ensures { IfOk result AsWorked }
 {
-    let two = judge(heap, &TWO_STREAMS)?;
-    let three = judge(heap, &three_streams(3))?;
-    let four = judge(heap, &three_streams(4))?;
-    let one = judge(heap, &one_stream(1))?;
-    let none = judge(heap, &one_stream(0))?;
+    let two = judge(alloc, &TWO_STREAMS)?;
+    let three = judge(alloc, &three_streams(3))?;
+    let four = judge(alloc, &three_streams(4))?;
+    let one = judge(alloc, &one_stream(1))?;
+    let none = judge(alloc, &one_stream(0))?;
     Ok(WalkCases {
         two,
         three,
@@ -100,7 +96,7 @@ fn check_all(heap: Global) -> Result<WalkCases, AllocError>
 }
 
 // Checks the worked tables; and says what any check of them answers, with the leads and rings of the first.
-pub fn walk_cases(heap: Global) -> Result<WalkCases, AllocError>
+pub fn walk_cases(alloc: Global) -> Result<WalkCases, AllocError>
     ensures answers { IfOk result AsWorked }
     ensures two { TwoStreams }
     ensures three { ThreeAhead }
@@ -108,7 +104,7 @@ pub fn walk_cases(heap: Global) -> Result<WalkCases, AllocError>
     ensures one { OneAhead }
     ensures none { NoneAhead }
 {
-    check_all(heap)
+    check_all(alloc)
 }
 
 #[cfg(test)]

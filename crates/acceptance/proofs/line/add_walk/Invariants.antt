@@ -1,7 +1,7 @@
-use Rattle.std.proofs.Common.{◌≡◌, ◌++◌, take, string_bytes}
+use Rattle.std.proofs.Common.{◌≡◌, ◌++◌, string_bytes}
 use Rattle.std.specs.List.{flat_map}
 use Rattle.acceptance.specs.Lines.{reference_line}
 use Rattle.acceptance.proofs.line.add_walk.Given as goal
 
-abbrev pub invariant-loop-i : goal.invariant-loop-i
-invariant-loop-i l = string_bytes l.text ≡ string_bytes l.initial.text ++ flat_map reference_line (take l.i l.sheet)
+abbrev pub invariant-loop-reader : goal.invariant-loop-reader
+invariant-loop-reader l = string_bytes l.text ≡ string_bytes l.initial.text ++ flat_map reference_line l.yielded
