@@ -1,4 +1,4 @@
-// What expressions name: whether it is declared, and the references of a table.
+// What expressions name, and whether it is declared.
 #![tactic(auto)]
 
 pub mod declared;
