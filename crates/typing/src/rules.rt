@@ -1,100 +1,79 @@
 // Which types an operator takes, and which divisors.
-ghost use Rattle.std.specs.Prelude.{◌≡◌};
+ghost use Rattle.std.specs.Prelude.{◌≡◌, ◌&&◌};
+ghost use Rattle.values.specs.declared.types.«Type».TheVariants as type;
 ghost use Rattle.syntax.specs.Trees.{exp};
-ghost use Rattle.typing.specs.Rules.{same, integer, unary_type, binary_type, divides, divisor, divided, place, settled};
+ghost use Rattle.typing.specs.Rules.{same, where_fit, integer, unary_type, binary_type, divides, divisor, divided, place, settled};
 
 use faults::cause::Cause;
 use operators::operator::{Binary, Unary};
 use syntax::tree::Expr;
 use values::types::Type;
 
-// Whether two types are one.
-pub(crate) fn same(a: Type, b: Type) -> bool
-    ensures { result ≡ same a b }
-{
-    a.code() == b.code()
-}
-
 // Whether a type's values are integers.
 fn integer(ty: Type) -> bool
     ensures { result ≡ integer ty }
 {
-    !same(ty, Type::Bool)
+    ty != Type::Bool
 }
 
 // The type of an operator with one operand, if that has a type it takes.
 pub(crate) fn unary_type(op: Unary, operand: Type) -> Option<Type>
     ensures { result ≡ unary_type op operand }
 {
-    let fits = match op {
-        Unary::Not => same(operand, Type::Bool),
-        Unary::Negate => integer(operand),
-    };
-    if fits { Some(operand) } else { None }
+    match op {
+        Unary::Not => (operand == Type::Bool).then_some(operand),
+        Unary::Negate => integer(operand).then_some(operand),
+    }
 }
 
 // The type of an operator with two operands, if they have types that it takes.
 pub(crate) fn binary_type(op: Binary, left: Type, right: Type) -> Option<Type>
     ensures { result ≡ binary_type op left right }
 {
-    if !same(left, right) {
+    if left != right {
         return None;
     }
     match op {
-        Binary::And | Binary::Or => {
-            if integer(left) {
-                None
-            } else {
-                Some(Type::Bool)
-            }
-        }
         Binary::Equal => Some(Type::Bool),
-        Binary::Less | Binary::AtMost => {
-            if integer(left) {
-                Some(Type::Bool)
-            } else {
-                None
-            }
-        }
-        _ => { if integer(left) { Some(left) } else { None } }
+        Binary::And | Binary::Or => (!integer(left)).then_some(Type::Bool),
+        Binary::Less | Binary::AtMost => integer(left).then_some(Type::Bool),
+        _ => integer(left).then_some(left),
     }
+}
+
+// The type of a choice, if its test is a Bool and its two values have one type.
+pub(crate) fn choice_type(test: Type, yes: Type, no: Type) -> Option<Type>
+    ensures { result ≡ where_fit (same test type.Bool && same yes no) yes }
+{
+    (test == Type::Bool && yes == no).then_some(yes)
 }
 
 // The place of an expression's first byte.
 pub(crate) fn place(e: &Expr) -> usize
     ensures { result ≡ place (exp e.now) }
 {
-    let place = match e {
-        Expr::Constant { place, .. } => *place,
-        Expr::Channel { place, .. } => *place,
-        Expr::Stream { place, .. } => *place,
-        Expr::Unary { place, .. } => *place,
-        Expr::Cast { place, .. } => *place,
-        Expr::Binary { place, .. } => *place,
-        Expr::Choose { place, .. } => *place,
-    };
-    usize::from(place)
+    let (Expr::Constant { place, .. }
+    | Expr::Channel { place, .. }
+    | Expr::Stream { place, .. }
+    | Expr::Unary { place, .. }
+    | Expr::Cast { place, .. }
+    | Expr::Binary { place, .. }
+    | Expr::Choose { place, .. }) = e;
+    usize::from(*place)
 }
 
 // Whether an operator divides.
 fn divides(op: Binary) -> bool
     ensures { result ≡ divides op }
 {
-    match op {
-        Binary::Quotient => true,
-        Binary::Remainder => true,
-        _ => false,
-    }
+    matches!(op, Binary::Quotient | Binary::Remainder)
 }
 
 // Whether an expression is a constant other than zero.
 fn divisor(e: &Expr) -> bool
     ensures { result ≡ divisor (exp e.now) }
 {
-    match e {
-        Expr::Constant { value, .. } => value.number() != 0,
-        _ => false,
-    }
+    matches!(e, Expr::Constant { value, .. } if value.number() != 0)
 }
 
 // Whether an expression that divides does so by a constant other than zero.

@@ -8,7 +8,7 @@ use std::alloc::{AllocError, Global};
 use syntax::record::Record;
 use values::types::Type;
 
-// The types of the channels and of the streams, by number.
+// The types of the channels and of the streams, by number. With a model, clauses would name the same two lists.
 #[derive(Drop)]
 pub(crate) struct Scope {
     channels: Vec<Type>,
@@ -19,12 +19,10 @@ pub(crate) struct Scope {
 fn type_at(types: &[Type], number: u8) -> Type
     ensures { result ≡ slice_index_or types.now number type.Bool }
 {
-    let i = usize::from(number);
-    if i < types.len() {
-        types[i]
-    } else {
-        Type::Bool
-    }
+    types
+        .get(usize::from(number))
+        .copied()
+        .unwrap_or(Type::Bool)
 }
 
 impl Scope {
@@ -41,12 +39,13 @@ impl Scope {
     }
 
     // The scope of a table.
-    pub(crate) fn new(heap: Global, records: &[Record]) -> Result<Scope, AllocError>
+    pub(crate) fn new(alloc: Global, records: &[Record]) -> Result<Scope, AllocError>
         ensures { MatchResult result (λ s. ScopeOf s (map entry_of records.now)) (λ _. 0 < length records.now) }
     {
-        let channels = Vec::new(heap);
-        let streams = Vec::new(heap);
-        let mut scope = Scope { channels, streams };
+        let mut scope = Scope {
+            channels: Vec::new(alloc),
+            streams: Vec::new(alloc),
+        };
         for r in records {
             scope.add(r)?;
         }

@@ -1,17 +1,22 @@
-use Rattle.std.proofs.Common.{map, sym, ◌∙◌, arith}
-use Rattle.std.proofs.lemmas.List.{length-map}
+use Rattle.std.proofs.Common.{map, vec_items, sym, ◌∙◌, rules}
 use Rattle.std.proofs.lemmas.Result.{err_from_is_err_and}
 use Rattle.syntax.specs.Passing.{every}
 use Rattle.syntax.specs.Entries.{entry_of}
+use Rattle.syntax.proofs.Each.{every_from_try_for_each}
 use Rattle.typing.specs.Judging.{entry_judged}
 use Rattle.typing.proofs.typed.check_types.Goals as goal
 
-pub returns-in-Err : goal.returns-in-Err
-returns-in-Err c = simp length-map (omega (arith, c.in-Err.ensures))
-
-pub returns-in_err-judge_records-in-Ok : goal.returns-in_err-judge_records-in-Ok
-returns-in_err-judge_records-in-Ok c =
-    let p = err_from_is_err_and c.from_residual.result c.from_residual.ensures.1 in
-    let s = c.in-Ok.ensures in
+pub returns-in_err-try_for_each : goal.returns-in_err-try_for_each
+returns-in_err-try_for_each c =
+    let scope = c.in_ok-scope.scope in
+    let s = c.in_ok-scope.ensures in
     let rs = map entry_of c.args.records.now in
-    rw (p.1, p.2) ((λ i. every (entry_judged (sym s.0 i) (sym s.1 i)) rs) ∙ sym c.in_err-judge_records-in-Ok.ensures)
+    let each = every_from_try_for_each (entry_judged (vec_items scope.channels) (vec_items scope.streams)) entry_of c.args.records.now _ c.try_for_each.ensures.ran (search rules) (λ x p d k. search rules) in
+    let p = err_from_is_err_and c.from_residual-in_err-try_for_each.result c.from_residual-in_err-try_for_each.ensures.1 in
+    rw (p.1, p.2) (sym (each ∙ (λ i. every (entry_judged (s.0 i) (s.1 i)) rs)) ∙ c.in_err-try_for_each.was)
+
+pub returns : goal.returns
+returns c =
+    let scope = c.in_ok-scope.scope in
+    let each = every_from_try_for_each (entry_judged (vec_items scope.channels) (vec_items scope.streams)) entry_of c.args.records.now _ c.try_for_each.ensures.ran (search rules) (λ x p d k. search rules) in
+    search rules
