@@ -3,7 +3,7 @@ ghost use Rattle.std.specs.Prelude.{◌≡◌, [], ◌∷◌, ◌++◌, map, IfO
 ghost use Rattle.syntax.specs.Entries.{entry_of};
 ghost use Rattle.syntax.specs.declared.record.Record.TheVariants as records;
 ghost use Rattle.syntax.specs.Trees.{exp};
-ghost use Rattle.names.specs.Uses.{uses, gathered, uses_of};
+ghost use Rattle.names.specs.Uses.{uses, uses_of};
 ghost use Rattle.references.specs.References.{reads, refer, references};
 
 use crate::reference::{Id, Reference};
@@ -37,8 +37,9 @@ fn add_expression(found: &mut Vec<Reference>, reader: Id, e: &Expr) -> Result<()
         Expr::Constant { .. } => Ok(()),
         Expr::Channel { number, .. } => add(found, reader, Kind::Channel, *number, 0),
         Expr::Stream { number, drop, .. } => add(found, reader, Kind::Stream, *number, *drop),
-        Expr::Unary { operand, .. } => add_expression(found, reader, operand),
-        Expr::Cast { operand, .. } => add_expression(found, reader, operand),
+        Expr::Unary { operand, .. } | Expr::Cast { operand, .. } => {
+            add_expression(found, reader, operand)
+        }
         Expr::Binary { left, right, .. } => {
             add_expression(found, reader, left)?;
             add_expression(found, reader, right)
@@ -51,22 +52,15 @@ fn add_expression(found: &mut Vec<Reference>, reader: Id, e: &Expr) -> Result<()
     }
 }
 
-// The same of several expressions, one after another.
-fn add_expressions(found: &mut Vec<Reference>, reader: Id, es: &[Expr]) -> Result<(), AllocError>
-    ensures { OnOk result (found.new.items ≡ found.old.items ++ map (refer reader) (gathered uses (map exp es.now))) }
-{
-    for e in es {
-        add_expression(found, reader, e)?;
-    }
-    Ok(())
-}
-
-// The same of a rule: its guard, and then its arguments.
+// The same of a rule: its guard, and then its arguments. A `for`, since of a chain no proof knows what its closure added.
 fn add_rule(found: &mut Vec<Reference>, reader: Id, rule: &Rule) -> Result<(), AllocError>
     ensures { OnOk result (found.new.items ≡ found.old.items ++ map (refer reader) (uses_of (entry_of (records.Rule rule.now)))) }
 {
     add_expression(found, reader, &rule.guard)?;
-    add_expressions(found, reader, &rule.arguments)
+    for e in &rule.arguments {
+        add_expression(found, reader, e)?;
+    }
+    Ok(())
 }
 
 // The same of a record.
@@ -81,13 +75,13 @@ fn add_record(found: &mut Vec<Reference>, reader: Id, r: &Record) -> Result<(), 
 }
 
 // Every channel and stream that is named in a body, guard or argument, with the record that names it.
-pub fn list_references(heap: Global, records: &[Record]) -> Result<Vec<Reference>, AllocError>
+pub fn list_references(alloc: Global, records: &[Record]) -> Result<Vec<Reference>, AllocError>
     ensures { IfOk result (λ v. v.items ≡ references [] (map entry_of records.now)) }
 {
-    let mut found = Vec::new(heap);
+    let mut found = Vec::new(alloc);
     for (i, r) in records.iter().enumerate() {
         let kind = r.kind();
-        let number = count(&records[0..i], kind);
+        let number = count(&records[..i], kind);
         add_record(&mut found, Id { kind, number }, r)?;
     }
     Ok(found)

@@ -1,5 +1,5 @@
 -- A table that is written is read, and so reading accepts exactly what is written. Assumes nothing.
-use Rattle.std.proofs.Common.{◌≡◌, ℕ, zero, suc, ◌+◌, ◌*◌, ◌/◌, ◌%◌, ◌<◌, ◌≤◌, true, cond, eqb, ltb, List, [], ◌∷◌, ◌++◌, length, get_or, take, drop, Some, Ok, Err, sym, refl, ap, ◌∙◌, subst, arith}
+use Rattle.std.proofs.Common.{◌≡◌, ℕ, zero, suc, ◌+◌, ◌*◌, ◌/◌, ◌%◌, ◌<◌, ◌≤◌, true, cond, eqb, ltb, List, [], ◌∷◌, ◌++◌, length, get_or, take, drop, Ok, Err, sym, refl, ap, ◌∙◌, subst, arith}
 use Rattle.std.specs.List.{AllByRecursion}
 use Rattle.std.proofs.ByRecursion.{All-take}
 use Rattle.std.proofs.lemmas.Bool.Decides.{nat_tests}
@@ -10,7 +10,6 @@ use Rattle.values.specs.declared.value.Value.{Value}
 use Rattle.values.specs.Types.{code}
 use Rattle.values.specs.Bytes.{encoded}
 use Rattle.syntax.specs.declared.record.Kind.{Kind}
-use Rattle.syntax.specs.declared.record.Kind.TheVariants.{Channel, Stream, Rule}
 use Rattle.syntax.specs.Answers.{Found, then}
 use Rattle.syntax.specs.Heads.{named, value_from}
 use Rattle.syntax.specs.Parsing.{parse}
@@ -18,6 +17,7 @@ use Rattle.syntax.specs.Entries.{Entry, kind_of, kind_code, kind_coded, limit, c
 use Rattle.syntax.specs.Entries as entry
 use Rattle.syntax.specs.Reading.{many, at_most, body, filled, framed, frame, entry_from, entries, read_table}
 use Rattle.syntax.specs.Written.{written, Bounded, HasType, placed, joined, payload, inner, write_entry, write, Small, each, placed_payload, placed_entry, AcceptsWritten}
+use Rattle.syntax.proofs.SameKind.{kind_back}
 use Rattle.syntax.proofs.Stand.{Stands, split, first, front_long, narrowed}
 use Rattle.syntax.proofs.Complete.{type_is, value_is, complete}
 use Rattle.syntax.proofs.Whole.{count_push, read_kept}
@@ -25,11 +25,6 @@ use Rattle.syntax.proofs.Whole.{count_push, read_kept}
 each_same : {X : Type 0} (w : X → List ℕ) (at : ℕ) (xs : List X) → each (λ _ x. x) w at xs ≡ xs
 each_same w at [] = refl
 each_same w at (x ∷ xs) = ap (λ l. x ∷ l) (each_same w (at + length (w x)) xs)
-
-kind_back : (k : Kind) → kind_coded (kind_code k) ≡ Some k
-kind_back Channel = refl
-kind_back Stream = refl
-kind_back Rule = refl
 
 eqb_same : (n : ℕ) → eqb n n ≡ true
 eqb_same n = grind (arith, nat_tests)

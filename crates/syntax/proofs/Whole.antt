@@ -1,5 +1,5 @@
 -- A table that is read was written so. Assumes nothing.
-use Rattle.std.proofs.Common.{◌≡◌, ℕ, zero, suc, ◌+◌, ◌<◌, ◌≤◌, cond, eqb, ltb, leb, List, [], ◌∷◌, ◌++◌, length, get_or, drop, Ok, Err, Result, sym, refl, ap, ◌∙◌, subst, arith}
+use Rattle.std.proofs.Common.{◌≡◌, ℕ, zero, suc, ◌+◌, ◌<◌, ◌≤◌, cond, eqb, ltb, leb, List, [], ◌∷◌, ◌++◌, length, get_or, drop, Ok, Err, Result, sym, ap, ◌∙◌, subst, arith}
 use Rattle.std.specs.List.{AllByRecursion}
 use Rattle.std.proofs.lemmas.List.{append_assoc, append-nil, drop_all, drop_more}
 use Rattle.std.proofs.ByRecursion.{All-append}
@@ -11,6 +11,7 @@ use Rattle.syntax.specs.Answers.{Found, then}
 use Rattle.syntax.specs.Entries.{Entry, kind_of, kind_code, limit, count}
 use Rattle.syntax.specs.Reading.{entry_from, entries, read_table}
 use Rattle.syntax.specs.Written.{joined, write_entry, write, Small}
+use Rattle.syntax.proofs.SameKind.{same_kind}
 use Rattle.syntax.proofs.Stand.{Stands, nothing, join, Good}
 use Rattle.syntax.proofs.Records.{RAt, sound_entry}
 
@@ -30,17 +31,6 @@ joined_push w (y ∷ ys) x = ap (λ l. w y ++ l) (joined_push w ys x) ∙ sym (a
 pub count_push : (k : Kind) (rs : List Entry) (r : Entry) → count k (rs ++ (r ∷ [])) ≡ count k rs + cond (eqb (kind_code (kind_of r)) (kind_code k)) 1 0
 count_push k [] r = omega arith
 count_push k (x ∷ xs) r = let e = count_push k xs r in omega (arith, e)
-
-same_kind : (a b : Kind) → kind_code a ≡ kind_code b → a ≡ b
-same_kind Channel Channel e = refl
-same_kind Channel Stream e = absurd (omega (arith, e))
-same_kind Channel Rule e = absurd (omega (arith, e))
-same_kind Stream Channel e = absurd (omega (arith, e))
-same_kind Stream Stream e = refl
-same_kind Stream Rule e = absurd (omega (arith, e))
-same_kind Rule Channel e = absurd (omega (arith, e))
-same_kind Rule Stream e = absurd (omega (arith, e))
-same_kind Rule Rule e = refl
 
 counted : (rs : List Entry) (r : Entry) → ((k : Kind) → count k rs ≤ limit k) → count (kind_of r) rs < limit (kind_of r) → (k : Kind) → count k (rs ++ (r ∷ [])) ≤ limit k
 counted rs r all room k =
