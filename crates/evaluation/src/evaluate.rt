@@ -12,7 +12,8 @@ use values::value::Value;
 // How deep an expression may be.
 const DEPTH: u8 = 12;
 
-// The value of an expression that is no deeper than the depth left.
+// The value of an expression that is no deeper than the depth left, which bounds the recursion. A deeper one has no promised value, and since evaluating cannot fail, it gets false.
+#[tactic(auto, using(crate::proofs::Levels::some_level))]
 fn eval<S: Source>(e: &Expr, source: &S, depth: u8) -> Value
     ensures { levels (exp e.now) ≤ depth → result ≡ meaning (S.Source.sample source.now) (S.Source.value source.now) (exp e.now) }
 {
