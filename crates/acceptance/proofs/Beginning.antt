@@ -7,7 +7,8 @@ use Rattle.schedule.specs.Plans.{counted}
 use Rattle.syntax.specs.Entries.{Entry}
 use Rattle.syntax.specs.Reading.{read_table, entries}
 use Rattle.walks.specs.Walks.{Falling, Settled}
-use Rattle.acceptance.specs.Accepting.{checked, Accepted}
+use Rattle.tables.specs.Checking.{checked}
+use Rattle.acceptance.specs.Accepting.{Accepted}
 
 pub first_order : checked (1 ∷ []) ≡ Ok []
 unfolding checked read_table entries

@@ -18,7 +18,7 @@ use Rattle.walks.specs.Walks.{Falling, Settled}
 use Rattle.acceptance.specs.declared.rejection.Rejection.{Rejection}
 use Rattle.acceptance.specs.declared.rejection.Rejection.TheVariants.{Refused, Memory}
 use Rattle.acceptance.specs.declared.table.Table.{Table}
-use Rattle.acceptance.specs.Accepting.{checked}
+use Rattle.tables.specs.Checking.{checked}
 use Rattle.acceptance.specs.Checking.{Accepts, Refuses, Admits, Answers, HasClosed, HasAhead, Decides, Decided}
 use Rattle.acceptance.specs.Rejecting.{rejected}
 use Rattle.acceptance.proofs.Passing.{order_of}

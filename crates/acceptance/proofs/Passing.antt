@@ -16,48 +16,20 @@ use Rattle.schedule.specs.Edges.{InOrder}
 use Rattle.schedule.specs.Plans.{lead_in, length_in, counted, Planned}
 use Rattle.schedule.specs.Scheduling.{Scheduled}
 use Rattle.walks.specs.declared.edge.SheetEntry.{SheetEntry}
-use Rattle.acceptance.specs.Accepting.{checked}
-use Rattle.acceptance.specs.Checking.{Accepts, Starved, Admits, Reads}
-
--- a table with a record has more than its version
-begun : (bytes : List ℕ) (rs : List Entry) → Written bytes rs → 0 < length rs → Begun bytes
-begun bytes [] w h = absurd (omega arith)
-begun bytes (r ∷ rs) w h = (ap (λ l. get_or l 0 0) w.whole, w.size, (let e = ap length w.whole in omega (arith, e)))
-
-module _ (bytes : List ℕ) where
-  abbrev typed_next : List Entry → Result (List Entry) Cause
-  typed_next rs = then (types_in rs) (λ _. Ok rs)
-
-  abbrev named_next : List Entry → Result (List Entry) Cause
-  named_next rs = then (undeclared_in rs) (λ _. typed_next rs)
-
-  pub read_stopped : (s : Stop) → Yields (Begun bytes) (Err s) (read_table bytes) → Reads bytes (Err s)
-  unfolding checked
-  read_stopped (Refused x) e = ap (λ f. then f named_next) e
-  read_stopped Memory h = h
-
-  module _ (rs : List Entry) (read : read_table bytes ≡ Ok rs) where
-    pub names_stopped : (x : Cause) → undeclared_in rs ≡ Err x → checked bytes ≡ Err x
-    unfolding checked
-    names_stopped x e = ap (λ f. then f named_next) read ∙ ap (λ f. then f (λ _. typed_next rs)) e
-
-    module _ (named : undeclared_in rs ≡ Ok tt) (law : AcceptsWritten bytes) where
-      typed_from : (o : Result (Unit {0}) Cause) → types_in rs ≡ o → checked bytes ≡ then o (λ _. Ok rs)
-      unfolding checked
-      typed_from o e = ap (λ f. then f named_next) read ∙ ap (λ f. then f (λ _. typed_next rs)) named ∙ ap (λ f. then f (λ _. Ok rs)) e
-
-      pub types_stopped : (s : Stop) → Typed (Err s) rs → Reads bytes (Err s)
-      types_stopped (Refused x) e = typed_from (Err x) e
-      types_stopped Memory h = begun bytes rs ((law rs).0 read) h
-
-      pub all_passed : types_in rs ≡ Ok tt → (checked bytes ≡ Ok rs) × InOrder rs
-      all_passed e = (typed_from (Ok tt) e, (let w : Written bytes rs = (law rs).0 read in record { small = w.small; few = w.few; named = named }))
+use Rattle.tables.specs.Checking.{checked}
+use Rattle.acceptance.specs.Checking.{Accepts, Starved, Admits}
 
 -- the law of reading, of a slice whose elements are bytes
 pub written_law : (bytes : List ℕ) → ((i : ℕ) → Fits w8 (get_or bytes i 0)) → AcceptsWritten bytes
 written_law bytes typed = accepts_written bytes (All-from_get_or (λ b. b < 256) bytes 0 (λ i _. (typed i).fits))
 
 -- ---- what bytes in order have passed
+abbrev typed_next : List Entry → Result (List Entry) Cause
+typed_next rs = then (types_in rs) (λ _. Ok rs)
+
+abbrev named_next : List Entry → Result (List Entry) Cause
+named_next rs = then (undeclared_in rs) (λ _. typed_next rs)
+
 module _ (bytes : List ℕ) (rs : List Entry) where
   abbrev Parts : Type 0
   Parts = (read_table bytes ≡ Ok rs) × (undeclared_in rs ≡ Ok tt)
@@ -68,11 +40,11 @@ module _ (bytes : List ℕ) (rs : List Entry) where
       subst (λ (x : List Entry). (read_table bytes ≡ Ok x) × (undeclared_in x ≡ Ok tt)) same (read, named)
   typed_parts ts (Err x) read named e = absurd (let q : ◌≡◌ {A = ℕ} 0 1 = cc in omega arith)
 
-  named_parts : (ts : List Entry) (o : Result (Unit {0}) Cause) → read_table bytes ≡ Ok ts → undeclared_in ts ≡ o → then o (λ _. typed_next bytes ts) ≡ Ok rs → Parts
+  named_parts : (ts : List Entry) (o : Result (Unit {0}) Cause) → read_table bytes ≡ Ok ts → undeclared_in ts ≡ o → then o (λ _. typed_next ts) ≡ Ok rs → Parts
   named_parts ts (Ok u) read is e = typed_parts ts (types_in ts) read is e
   named_parts ts (Err x) read is e = absurd (let q : ◌≡◌ {A = ℕ} 0 1 = cc in omega arith)
 
-  read_parts : (o : Result (List Entry) Cause) → read_table bytes ≡ o → then o (named_next bytes) ≡ Ok rs → Parts
+  read_parts : (o : Result (List Entry) Cause) → read_table bytes ≡ o → then o (named_next) ≡ Ok rs → Parts
   read_parts (Ok ts) is e = named_parts ts (undeclared_in ts) is refl e
   read_parts (Err x) is e = absurd (let q : ◌≡◌ {A = ℕ} 0 1 = cc in omega arith)
 

@@ -1,6 +1,5 @@
 -- What the check answers of a table's bytes and a sheet, and what it leaves behind. Assumes nothing.
-use Rattle.std.specs.Prelude.{◌≡◌, ℕ, ◌<◌, ◌≤◌, ◌⊎◌, List, [], ◌∷◌, length, pos, ◌≤ℤ◌, Ok, Err, vec_items, Result, Vec, slice_index}
-use Rattle.std.specs.declared.alloc.Global.{Global}
+use Rattle.std.specs.Prelude.{◌≡◌, ℕ, ◌<◌, ◌≤◌, ◌⊎◌, List, [], ◌∷◌, length, pos, ◌≤ℤ◌, Ok, Err, vec_items, Result, slice_index}
 use Rattle.faults.specs.declared.cause.Cause.{Cause}
 use Rattle.faults.specs.declared.cause.Cause.TheVariants.{ShortSheet}
 use Rattle.faults.specs.declared.fault.Layer.TheVariants as layer
@@ -9,21 +8,18 @@ use Rattle.faults.specs.Faults.{made_by}
 use Rattle.references.specs.declared.reference.Id.{Id}
 use Rattle.references.specs.declared.reference.Reference.{Reference}
 use Rattle.schedule.specs.declared.plan.Counts.{Counts}
-use Rattle.schedule.specs.Edges.{InOrder}
 use Rattle.schedule.specs.Graphs.{graph, IsChannel}
 use Rattle.schedule.specs.Plans.{Takes, counted}
 use Rattle.schedule.specs.Scheduling.{Blames}
-use Rattle.syntax.specs.declared.record.Record.{Record}
 use Rattle.syntax.specs.declared.stop.Stop.{Stop}
 use Rattle.syntax.specs.declared.stop.Stop.TheVariants as stop
 use Rattle.syntax.specs.Entries.{Entry, entries_of}
-use Rattle.syntax.specs.Reading.{Begun}
 use Rattle.walks.specs.declared.edge.SheetEntry.{SheetEntry}
 use Rattle.walks.specs.Walks.{Walk, weigh, Rising, Falling, Settled}
 use Rattle.acceptance.specs.declared.rejection.Rejection.{Rejection}
 use Rattle.acceptance.specs.declared.rejection.Rejection.TheVariants.{Refused, Memory}
 use Rattle.acceptance.specs.declared.table.Table.{Table}
-use Rattle.acceptance.specs.Accepting.{checked}
+use Rattle.tables.specs.Checking.{checked}
 
 -- the table holds these bytes, the records that they write, and a plan of so many slots
 pub record Holds (t : Table) (bytes : List ℕ) (c : Counts) : Type 0 where
@@ -65,12 +61,6 @@ abbrev pub Admits : List ℕ → List SheetEntry → List SheetEntry → Result 
 Admits bytes sheet sheet' (Ok t) = (33 ≤ length sheet) × (sheet' ≡ sheet) × Accepts bytes t.plan.counts × Holds t bytes t.plan.counts
 Admits bytes sheet sheet' (Err (stop.Refused c)) = Refuses bytes sheet sheet' c
 Admits bytes sheet sheet' (Err stop.Memory) = (sheet' ≡ sheet) × Starved bytes sheet
-
--- records that are in order, or why the bytes write none
-abbrev pub Reads : List ℕ → Result (Vec Record Global) Stop → Type 0
-Reads bytes (Ok records) = (checked bytes ≡ Ok (entries_of records)) × InOrder (entries_of records)
-Reads bytes (Err (stop.Refused c)) = checked bytes ≡ Err c
-Reads bytes (Err stop.Memory) = Begun bytes
 
 -- the first table: the byte 01 alone
 abbrev pub First : Table → Type 0

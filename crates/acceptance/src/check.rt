@@ -1,32 +1,19 @@
 // The check of a table, and the first table, which it has to replace.
 ghost use Rattle.std.specs.Prelude.{◌≡◌, IfOk};
-ghost use Rattle.acceptance.specs.Checking.{Reads, Admits, Answers, First, Decided};
+ghost use Rattle.acceptance.specs.Checking.{Admits, Answers, First, Decided};
 
 use crate::rejection::Rejection;
 use crate::table::Table;
 use faults::cause::Cause;
-use names::declared::check_names;
 use schedule::ordered::OrderedRecords;
 use schedule::plan::{Counts, Plan, Ring, make_plan};
 use std::alloc::{AllocError, Global};
-use syntax::record::Record;
 use syntax::stop::Stop;
-use syntax::table::read_table;
-use typing::typed::check_types;
+use tables::reading::read_checked;
 use walks::edge::SheetEntry;
 
 // How many entries a sheet has at least: a walk to a channel may take so many.
 const LEAST_SHEET: usize = 33;
-
-// The records of a table, with their names and types looked at; or why the bytes write none.
-fn read_checked(alloc: Global, bytes: &[u8]) -> Result<Vec<Record>, Stop>
-    ensures { Reads bytes.now result }
-{
-    let records = read_table(alloc, bytes)?;
-    check_names(&records)?;
-    check_types(alloc, &records)?;
-    Ok(records)
-}
 
 // The table that the bytes write; or why they write none, with a walk to blame in the sheet's first entries.
 fn accept(alloc: Global, bytes: &[u8], sheet: &mut [SheetEntry]) -> Result<Table, Stop>

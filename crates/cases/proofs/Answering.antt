@@ -16,7 +16,7 @@ use Rattle.walks.specs.declared.edge.SheetEntry.{SheetEntry}
 use Rattle.walks.specs.Walks.{Walk, weigh, at, Apart, Rising, Falling, Settled, TellsClosed, TellsAhead}
 use Rattle.acceptance.specs.declared.rejection.Rejection.{Rejection}
 use Rattle.acceptance.specs.declared.rejection.Rejection.TheVariants.{Refused, Memory}
-use Rattle.acceptance.specs.Accepting.{checked}
+use Rattle.tables.specs.Checking.{checked}
 use Rattle.acceptance.specs.Checking.{Accepts, Refuses}
 use Rattle.acceptance.proofs.Deciding.{same_records}
 use Rattle.cases.specs.Cases.{Checks, AcceptedWith, RefusedFor}

@@ -21,7 +21,7 @@ use Rattle.schedule.specs.Edges.{InOrder, id_at}
 use Rattle.schedule.specs.Graphs.{stream, openings, graph}
 use Rattle.schedule.specs.Plans.{ring_count, lead_by, Takes}
 use Rattle.walks.specs.Walks.{reach, Falling, Lead, Ring}
-use Rattle.acceptance.specs.Accepting.{checked}
+use Rattle.tables.specs.Checking.{checked}
 use Rattle.cases.specs.Cases.{two_streams, two_leads, Two, TwoStreams}
 use Rattle.cases.proofs.Potentials.{falls, reaching, most, settled}
 use Rattle.acceptance.proofs.Deciding.{same_records}

@@ -12,7 +12,7 @@ use Rattle.walks.specs.Walks.{Lead, Ring}
 use Rattle.acceptance.specs.declared.rejection.Rejection.{Rejection}
 use Rattle.acceptance.specs.declared.rejection.Rejection.TheVariants.{Refused, Memory}
 use Rattle.acceptance.specs.declared.table.Table.{Table}
-use Rattle.acceptance.specs.Accepting.{checked}
+use Rattle.tables.specs.Checking.{checked}
 use Rattle.acceptance.specs.Checking.{Answers}
 use Rattle.cases.specs.declared.WalkCases.{WalkCases}
 

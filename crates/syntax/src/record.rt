@@ -1,10 +1,11 @@
 // The records of a table.
-ghost use Rattle.std.specs.Prelude.{◌≡◌, ◌==◌, map};
+ghost use Rattle.std.specs.Prelude.{◌≡◌, ◌==◌, Some, map};
 ghost use Rattle.values.specs.Codes.{known};
 ghost use Rattle.syntax.specs.Entries.{entry_of, kind_of, kind_coded, kind_code, limit, count};
-ghost use Rattle.syntax.specs.Counting.{counts_of};
+ghost use Rattle.syntax.specs.Counting.{counts_of, counts_text};
 
 use crate::tree::Expr;
+use std::fmt;
 use values::types::{Type, UnknownCode};
 use values::value::Value;
 
@@ -112,5 +113,19 @@ impl Counts {
             streams: count(records, Kind::Stream),
             rules: count(records, Kind::Rule),
         }
+    }
+}
+
+// Writes how many records of each kind there are.
+impl fmt::Display for Counts {
+    ghost output = { λ counts. Some (counts_text counts) };
+
+    fn fmt<W: fmt::Write>(&self, f: &mut fmt::Formatter<W>) -> fmt::Result {
+        let Counts {
+            channels,
+            streams,
+            rules,
+        } = *self;
+        write!(f, "channels {channels} streams {streams} rules {rules}")
     }
 }
