@@ -13,12 +13,13 @@ pub fn read_at_most<R: Read + Drop>(alloc: Global, input: R, most: usize) -> any
     ensures size { IfOk result (λ bytes. length bytes.items ≤ most) }
     ensures front { IfOk result (λ bytes. IfSome (R.remaining input) (λ xs. bytes.items ≡ take most xs)) }
 {
-    let mut bytes = Vec::with_capacity(alloc, most)?;
+    // Room for one byte more, so that the read that finds the end asks for no memory.
+    let mut bytes = Vec::with_capacity(alloc, most.saturating_add(1))?;
     input
         .take(most as u64)
         .read_to_end(&mut bytes)
         .context("standard input cannot be read")?;
-    // It has no more already, but no contract of `read_to_end` says so of every reader.
+    // There are no more, but the contract of `read_to_end` says so only where a reader's bytes are known.
     bytes.truncate(most);
     Ok(bytes)
 }

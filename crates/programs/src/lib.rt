@@ -3,4 +3,6 @@
 
 pub mod exit;
 pub mod input;
+#[cfg(test)]
+mod tests;
 pub mod vectors;

@@ -1,0 +1,61 @@
+// That calls succeed, and the text of an error, on examples.
+use crate::exit::exit_code;
+use crate::input::read_at_most;
+use crate::vectors::{table_bytes, tell_line};
+use std::io;
+use std::io::{ErrorKind, Read};
+use std::process::ExitCode;
+use std::test::Fail;
+
+// Gives one byte, and fails at each later call.
+#[derive(Drop)]
+struct Failing {
+    asked: bool,
+}
+
+impl Read for Failing {
+    fn read(&mut self, buf: &mut [u8]) -> io::Result<usize> {
+        if self.asked || buf.is_empty() {
+            return Err(io::Error::from(ErrorKind::TimedOut));
+        }
+        self.asked = true;
+        buf[0] = 1;
+        Ok(1)
+    }
+}
+
+#[test]
+fn reads_as_many_as_asked(rt: HostRuntime) -> Result<(), Fail> {
+    let input = [1u8, 2, 3];
+    let bytes = read_at_most(rt.alloc(), input.as_slice(), 2)?;
+    assert!(rt; bytes.as_slice() == [1u8, 2].as_slice());
+    let bytes = read_at_most(rt.alloc(), input.as_slice(), 4)?;
+    assert!(rt; bytes.as_slice() == input.as_slice());
+    Ok(())
+}
+
+#[test]
+fn tells_a_read_that_fails(rt: HostRuntime) -> Result<(), Fail> {
+    match read_at_most(rt.alloc(), Failing { asked: false }, 4) {
+        Ok(_) => Err(Fail::new("a reader that fails was read")),
+        Err(e) => {
+            let text = format!(in rt.alloc(); "{e:#}")?;
+            assert!(rt; text.as_str().starts_with("standard input cannot be read: "));
+            Ok(())
+        },
+    }
+}
+
+#[test]
+fn tells_of_lines(rt: HostRuntime) -> Result<(), Fail> {
+    let alloc = rt.alloc();
+    let told = tell_line(alloc, "01fF", |bytes| format!(in alloc; "{bytes:?}"))?;
+    assert!(rt; told.as_str() == "[1, 255]");
+    let told = tell_line(alloc, "-", |bytes| format!(in alloc; "{bytes:?}"))?;
+    assert!(rt; told.as_str() == "[]");
+    let told = tell_line(alloc, "0g", |bytes| format!(in alloc; "{bytes:?}"))?;
+    assert!(rt; told.as_str() == "not hexadecimal");
+    assert!(rt; table_bytes(alloc, "010")?.is_none());
+    assert!(rt; exit_code(&rt, "programs", Ok(())) == ExitCode::SUCCESS);
+    Ok(())
+}
