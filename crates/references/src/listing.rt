@@ -52,7 +52,7 @@ fn add_expression(found: &mut Vec<Reference>, reader: Id, e: &Expr) -> Result<()
     }
 }
 
-// The same of a rule: its guard, and then its arguments. A `for`, since of a chain no proof knows what its closure added.
+// The same of a rule: its guard, and then its arguments. A `for`: after `try_for_each` a proof does not know what its closure added.
 fn add_rule(found: &mut Vec<Reference>, reader: Id, rule: &Rule) -> Result<(), AllocError>
     ensures { OnOk result (found.new.items ≡ found.old.items ++ map (refer reader) (uses_of (entry_of (records.Rule rule.now)))) }
 {

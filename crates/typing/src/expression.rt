@@ -9,7 +9,7 @@ use faults::cause::Cause;
 use syntax::tree::Expr;
 use values::types::Type;
 
-// The type that fits, or that the operator at a place takes none such.
+// The type that fits, or that the operator at a place takes none of its operands' types.
 fn fitted(at: u16, ty: Option<Type>) -> Result<Type, Cause>
     ensures { result ≡ fitted at ty }
 {
@@ -17,7 +17,7 @@ fn fitted(at: u16, ty: Option<Type>) -> Result<Type, Cause>
 }
 
 impl Scope {
-    // The type of an operand, at most `depth` deep.
+    // The type of an operand, at most `depth` deep, once its own divisor is looked at.
     #[cycle(shape)]
     fn operand(&self, e: &Expr, depth: u8) -> Result<Type, Cause>
         ensures { result ≡ operand (shape self.now.channels.items self.now.streams.items depth) (exp e.now) }
