@@ -58,21 +58,18 @@ impl<'a> Reader<'a> {
         self.at = end;
         Ok(record)
     }
-}
 
-// The records after the version byte.
-fn read_records(alloc: Global, bytes: &[u8]) -> Result<Vec<Record>, Stop>
-    requires some { 1 ≤ length bytes.now }
-    requires few { length bytes.now ≤ 8192 }
-    ensures { Yields (1 < length bytes.now) result (entries (length bytes.now) [] bytes.now 1) }
-{
-    let mut reader = Reader { bytes, at: 1 };
-    let mut records = Vec::new(alloc);
-    while reader.at < reader.bytes.len() {
-        let record = reader.read_record(alloc, &records)?;
-        records.push(record)?;
+    // All records that come.
+    fn read_records(&mut self, alloc: Global) -> Result<Vec<Record>, Stop>
+        ensures { Yields (self.old.at < length self.old.bytes.now) result (entries (length self.old.bytes.now) [] self.old.bytes.now self.old.at) }
+    {
+        let mut records = Vec::new(alloc);
+        while self.at < self.bytes.len() {
+            let record = self.read_record(alloc, &records)?;
+            records.push(record)?;
+        }
+        Ok(records)
     }
-    Ok(records)
 }
 
 // The records of a table, or why the bytes are none.
@@ -86,5 +83,5 @@ pub fn read_table(alloc: Global, bytes: &[u8]) -> Result<Vec<Record>, Stop>
     if bytes.len() > MOST_BYTES {
         return Err(Stop::Refused(Cause::Limit(MOST_BYTES)));
     }
-    read_records(alloc, bytes)
+    Reader { bytes, at: 1 }.read_records(alloc)
 }
