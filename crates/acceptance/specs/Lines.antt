@@ -1,11 +1,13 @@
 -- The line that tells an answer of the check. Assumes nothing.
-use Rattle.std.specs.Prelude.{◌≡◌, ℕ, List, [], ◌++◌, length, take, Ok, Err, codes, decimal, Result}
+use Rattle.std.specs.Prelude.{◌≡◌, ℕ, List, [], ◌++◌, length, take, Ok, Err, codes, Result}
 use Rattle.std.specs.List.{flat_map}
 use Rattle.faults.specs.declared.cause.Cause.{Cause}
 use Rattle.faults.specs.declared.cause.Cause.TheVariants.{ClosedWalk, ChannelWalk}
 use Rattle.faults.specs.Lines.{refusal_line}
 use Rattle.schedule.specs.declared.plan.Counts.{Counts}
+use Rattle.schedule.specs.Lines.{size_text}
 use Rattle.walks.specs.declared.edge.SheetEntry.{SheetEntry}
+use Rattle.walks.specs.Lines.{entry_line}
 use Rattle.acceptance.specs.declared.rejection.Rejection.{Rejection}
 use Rattle.acceptance.specs.declared.rejection.Rejection.TheVariants.{Refused, Memory}
 use Rattle.acceptance.specs.declared.table.Table.{Table}
@@ -13,8 +15,7 @@ use Rattle.acceptance.specs.Checking.{Answers, First}
 
 -- the counts of an accepted table, or the number and place of a refusal
 abbrev pub line : Result Counts Rejection → List ℕ
-line (Ok c) =
-    codes "accepted channels " ++ (decimal c.channels ++ (codes " streams " ++ (decimal c.streams ++ (codes " rules " ++ (decimal c.rules ++ (codes " slots " ++ decimal c.slots))))))
+line (Ok c) = codes "accepted " ++ size_text c
 line (Err (Refused f)) = refusal_line f.cause
 line (Err Memory) = []
 
@@ -31,7 +32,7 @@ listed (Err Memory) = 0
 
 -- a line for a reference: who reads what, by their numbers among all records, and the drop
 abbrev pub reference_line : SheetEntry → List ℕ
-reference_line e = codes "\nref " ++ (decimal e.reader ++ (codes " " ++ (decimal e.read ++ (codes " " ++ decimal e.drop))))
+reference_line e = codes "\n" ++ entry_line e
 
 -- the line of an answer, and a line for each reference that it lists in the sheet
 abbrev pub line_and_walk : Result Counts Rejection → List SheetEntry → List ℕ

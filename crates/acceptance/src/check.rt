@@ -8,9 +8,11 @@ use faults::cause::Cause;
 use schedule::ordered::OrderedRecords;
 use schedule::plan::{Counts, Plan, Ring, make_plan};
 use std::alloc::{AllocError, Global};
+use syntax::record;
 use syntax::stop::Stop;
 use tables::reading::read_checked;
 use walks::edge::SheetEntry;
+use walks::graph::NODES;
 
 // How many entries a sheet has at least: a walk to a channel may take so many.
 const LEAST_SHEET: usize = 33;
@@ -40,14 +42,16 @@ impl Table {
     {
         let bytes = vec![in alloc; 1u8]?;
         let counts = Counts {
-            channels: 0,
-            streams: 0,
-            rules: 0,
+            records: record::Counts {
+                channels: 0,
+                streams: 0,
+                rules: 0,
+            },
             slots: 0,
         };
         let plan = Plan {
             counts,
-            leads: [0; 64],
+            leads: [0; NODES],
             order: [0; 32],
             rings: [Ring::default(); 48],
         };

@@ -22,17 +22,7 @@ fn write_line(alloc: Global, answer: &Result<Counts, Rejection>) -> Result<Strin
     ensures { IfOk result (λ text. string_bytes text ≡ line answer.now) }
 {
     match answer {
-        Ok(counts) => {
-            let Counts {
-                channels,
-                streams,
-                rules,
-                slots,
-            } = *counts;
-            format!(in alloc;
-                "accepted channels {channels} streams {streams} rules {rules} slots {slots}"
-            )
-        }
+        Ok(counts) => format!(in alloc; "accepted {counts}"),
         Err(Rejection::Refused(fault)) => format!(in alloc; "{fault}"),
         Err(Rejection::Memory) => Err(AllocError),
     }
@@ -60,8 +50,8 @@ fn add_walk(
 ) -> Result<String, AllocError>
     ensures { IfOk result (λ t. string_bytes t ≡ string_bytes text ++ flat_map reference_line (take count sheet.now)) }
 {
-    for SheetEntry { reader, read, drop } in sheet.iter().copied().take(count) {
-        let line = format!(in alloc; "\nref {reader} {read} {drop}")?;
+    for entry in sheet.iter().copied().take(count) {
+        let line = format!(in alloc; "\n{entry}")?;
         text.push_str(&line)?;
     }
     Ok(text)

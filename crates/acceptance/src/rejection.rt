@@ -6,7 +6,7 @@ use faults::fault::{Fault, Layer};
 use syntax::stop::Stop;
 
 // Why the check does not accept a table: it is refused, or there is no memory for it.
-#[derive(Drop)]
+#[derive(Clone, Copy, Debug, PartialEq, Eq)]
 pub enum Rejection {
     Refused(Fault),
     Memory,

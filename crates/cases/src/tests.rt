@@ -12,17 +12,13 @@ const BLANK: SheetEntry = SheetEntry {
     drop: 99,
 };
 
-fn is_entry(entry: SheetEntry, reader: usize, read: usize, drop: u8) -> bool {
-    entry.reader == reader && entry.read == read && entry.drop == drop
-}
-
 #[test]
 fn refuses_a_short_sheet(rt: HostRuntime) -> Result<(), Fail> {
     let mut table = Table::new(rt.alloc())?;
     let mut sheet = [BLANK; 32];
     match table.check(rt.alloc(), &TWO_STREAMS, &mut sheet) {
         Err(Rejection::Refused(fault)) => {
-            assert!(rt; fault.number() == 10 && fault.place() == 32);
+            assert_eq!(rt; (fault.number(), fault.place()), (10, 32));
             Ok(())
         },
         _ => Err(Fail::new("not refused")),
@@ -34,13 +30,34 @@ fn lists_the_walk_to_blame(rt: HostRuntime) -> Result<(), Fail> {
     let mut table = Table::new(rt.alloc())?;
     let mut sheet = [BLANK; 33];
     match table.check(rt.alloc(), &three_streams(4), &mut sheet) {
-        Err(Rejection::Refused(fault)) => assert!(rt; fault.number() == 9 && fault.place() == 3),
+        Err(Rejection::Refused(fault)) => assert_eq!(rt; (fault.number(), fault.place()), (9, 3)),
         _ => return Err(Fail::new("not refused")),
     }
-    assert!(rt; is_entry(sheet[0], 3, 2, 4));
-    assert!(rt; is_entry(sheet[1], 2, 1, 0));
-    assert!(rt; is_entry(sheet[2], 1, 0, 0));
-    assert!(rt; is_entry(sheet[3], 99, 99, 99), "an entry past the walk");
+    assert_eq!(rt;
+        sheet[0],
+        SheetEntry {
+            reader: 3,
+            read: 2,
+            drop: 4
+        }
+    );
+    assert_eq!(rt;
+        sheet[1],
+        SheetEntry {
+            reader: 2,
+            read: 1,
+            drop: 0
+        }
+    );
+    assert_eq!(rt;
+        sheet[2],
+        SheetEntry {
+            reader: 1,
+            read: 0,
+            drop: 0
+        }
+    );
+    assert!(rt; sheet[3] == BLANK, "an entry past the walk");
     Ok(())
 }
 
@@ -50,10 +67,7 @@ fn keeps_what_it_accepted(rt: HostRuntime) -> Result<(), Fail> {
     assert!(rt; table.bytes() == [1u8].as_slice());
     let mut sheet = [BLANK; 33];
     assert!(rt; table.check(rt.alloc(), &TWO_STREAMS, &mut sheet).is_ok());
-    assert!(rt;
-        is_entry(sheet[0], 99, 99, 99),
-        "an acceptance keeps the sheet"
-    );
+    assert!(rt; sheet[0] == BLANK, "an acceptance keeps the sheet");
     assert!(rt; table.check(rt.alloc(), &one_stream(1), &mut sheet).is_err());
     assert!(rt;
         table.bytes() == TWO_STREAMS.as_slice(),

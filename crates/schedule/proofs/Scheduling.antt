@@ -61,7 +61,7 @@ module _ (rs : List Entry) (o : Orderly rs) where
         record {
           falls = falls_down rs o laid.falls;
           settled = settled_down rs o settled;
-          counts = places.counts ∙ (λ i. record { channels = ec i; streams = es i; rules = er i; slots = slots i });
+          counts = places.counts ∙ (λ i. record { records = record { channels = ec i; streams = es i; rules = er i }; slots = slots i });
           measured = subst (λ (f : ℕ → ℕ). Measured rs f (length_in p)) (sym lead) (record {
             leads = measures.leads;
             lengths = λ q h. subst (λ (n : ℕ). Ring (graph rs) (lead_by lead_of) (id_at rs q) n) (sym (long q h)) (measures.lengths q h);
@@ -70,8 +70,8 @@ module _ (rs : List Entry) (o : Orderly rs) where
           order = subst (λ (f : ℕ → ℕ). Ordered rs f p.order) (sym lead) (subst (λ (x : List ℕ). Ordered rs lead_of x) (sym places.order) ordered);
         }
       where
-        channels_are : p.counts.channels ≡ count Channel rs
-        channels_are = ap (λ c. c.channels) places.counts ∙ ec
+        channels_are : p.counts.records.channels ≡ count Channel rs
+        channels_are = ap (λ c. c.records.channels) places.counts ∙ ec
 
 module _ (rs : List Entry) (o : Orderly rs) where
   -- numbers and edges that are those of a table lie within the limits

@@ -16,7 +16,7 @@ pub record Consecutive (lengths : List ℕ) (count : ℕ) (p : Placed) : Type 0 
 
 -- a plan by a layout, with rings that lie one after another
 pub record Places (l : Layout) (channels streams rules : ℕ) (p : Plan) : Type 0 where
-  pub counts : p.counts ≡ record { channels = channels; streams = streams; rules = rules; slots = slots_before (λ j. slice_index l.lengths j) (channels + streams) }
+  pub counts : p.counts ≡ record { records = record { channels = channels; streams = streams; rules = rules }; slots = slots_before (λ j. slice_index l.lengths j) (channels + streams) }
   pub leads : p.leads ≡ l.leads
   pub order : p.order ≡ l.order
   pub rings : (q : ℕ) → q < channels + streams → slice_index_or p.rings q no_ring ≡ ring_at l.lengths q

@@ -3,6 +3,7 @@ use Rattle.std.specs.Prelude.{◌≡◌, ℕ, ◌+◌, ◌<◌, List, [], map, �
 use Rattle.std.specs.List.{range_with_len}
 use Rattle.syntax.specs.declared.record.Kind.{Kind}
 use Rattle.syntax.specs.declared.record.Kind.TheVariants.{Channel, Stream, Rule}
+use Rattle.syntax.specs.Counting.{counts_of}
 use Rattle.syntax.specs.Entries.{Entry, count}
 use Rattle.references.specs.declared.reference.Id.{Id}
 use Rattle.references.specs.declared.reference.Reference.{Reference}
@@ -45,7 +46,7 @@ pub record Takes (rs : List Entry) (z : ℕ) : Type 0 where
 
 -- what a plan has: the lead of a stream by its number, and a ring's length by its own
 abbrev pub lead_in : Plan → ℕ → ℕ
-lead_in p s = slice_index p.leads (p.counts.channels + s)
+lead_in p s = slice_index p.leads (p.counts.records.channels + s)
 
 abbrev pub no_ring : Slots
 no_ring = record { base = 0; length = 0 }
@@ -65,7 +66,7 @@ pub record Ordered (rs : List Entry) (lead : ℕ → ℕ) (order : List ℕ) : T
 
 -- how many records of each kind there are, with so many slots
 abbrev pub counted : List Entry → ℕ → Counts
-counted rs z = record { channels = count Channel rs; streams = count Stream rs; rules = count Rule rs; slots = z }
+counted rs z = record { records = counts_of rs; slots = z }
 
 -- a plan of a table, in which no closed walk weighs 0 or more and no walk to a channel more than 0; each ring begins where the one before ends
 pub record Planned (rs : List Entry) (p : Plan) : Type 0 where

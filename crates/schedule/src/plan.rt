@@ -1,8 +1,9 @@
 // The plan of a table's values: where its rings lie, and in what order streams are evaluated.
-ghost use Rattle.std.specs.Prelude.{◌≤◌, map, length};
+ghost use Rattle.std.specs.Prelude.{◌≤◌, Some, map, length};
 ghost use Rattle.syntax.specs.Entries.{entry_of};
 ghost use Rattle.schedule.specs.Placements.{Consecutive, Places};
 ghost use Rattle.schedule.specs.Scheduling.{Scheduled};
+ghost use Rattle.schedule.specs.Lines.{size_text};
 
 use crate::edges::make_graph;
 use crate::ordered::OrderedRecords;
@@ -10,7 +11,8 @@ use crate::walking::weigh_walks;
 use faults::cause::Cause;
 use layout::layout::Layout;
 use std::alloc::Global;
-use syntax::record::{Kind, count};
+use std::fmt;
+use syntax::record::{self, Kind, count};
 use syntax::stop::Stop;
 use walks::edge::SheetEntry;
 use walks::graph::{Graph, NODES};
@@ -21,10 +23,18 @@ const MOST_SLOTS: usize = 2048;
 // How many records of each kind a table has, and how many slots its rings take.
 #[derive(Clone, Copy, Debug, PartialEq, Eq)]
 pub struct Counts {
-    pub channels: usize,
-    pub streams: usize,
-    pub rules: usize,
+    pub records: record::Counts,
     pub slots: usize,
+}
+
+// Writes both.
+impl fmt::Display for Counts {
+    ghost output = { λ counts. Some (size_text counts) };
+
+    fn fmt<W: fmt::Write>(&self, f: &mut fmt::Formatter<W>) -> fmt::Result {
+        let Counts { records, slots } = *self;
+        write!(f, "{records} slots {slots}")
+    }
 }
 
 // Where a ring lies: its first slot, and how many slots it has.
@@ -79,9 +89,11 @@ fn lay_plan(layout: &Layout, graph: &Graph, rules: usize) -> Plan
     let Placed { rings, slots } = place_rings(&layout.lengths, graph.channels + graph.streams);
     Plan {
         counts: Counts {
-            channels: graph.channels,
-            streams: graph.streams,
-            rules,
+            records: record::Counts {
+                channels: graph.channels,
+                streams: graph.streams,
+                rules,
+            },
             slots,
         },
         leads: layout.leads,

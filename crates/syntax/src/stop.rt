@@ -6,7 +6,7 @@ use faults::cause::Cause;
 use std::alloc::{AllocError, AllocFailed as Unplaced};
 
 // Why reading stops: the bytes are refused, or there is no memory for what they say.
-#[derive(Drop)]
+#[derive(Clone, Copy, Debug, PartialEq, Eq)]
 pub enum Stop {
     Refused(Cause),
     Memory,

@@ -9,6 +9,6 @@ use Rattle.acceptance.proofs.line.add_walk.Goals as goal
 pub returns : goal.returns
 returns c =
     let road = YieldsList-from_take c.args.count (YieldsList-from_copied (YieldsList-from_slice c.args.sheet.now cc)) cc in
-    let end = YieldsList-end road c.loop-reader.yielded _ c.loop-reader.yielded_by _ _ c.in-None.is c.next.ensures.steps in
-    let all : c.loop-reader.yielded ≡ take c.args.count c.args.sheet.now = sym (map-id c.loop-reader.yielded) ∙ end.0 in
-    c.loop-reader.invariant ∙ ap (λ l. string_bytes c.args.text ++ flat_map reference_line l) all
+    let end = YieldsList-end road c.loop-entry.yielded _ c.loop-entry.yielded_by _ _ c.in-None.is c.next.ensures.steps in
+    let all : c.loop-entry.yielded ≡ take c.args.count c.args.sheet.now = sym (map-id c.loop-entry.yielded) ∙ end.0 in
+    c.loop-entry.invariant ∙ ap (λ l. string_bytes c.args.text ++ flat_map reference_line l) all
