@@ -1,5 +1,5 @@
 -- Bytes that are read, named and typed are in order; and where one of these stops, the check stops. Assumes nothing.
-use Rattle.std.proofs.Common.{◌≡◌, ℕ, ◌<◌, ◌≤◌, List, [], ◌∷◌, length, get_or, Ok, Err, Result, sym, refl, ap, ◌∙◌, subst, inr, arith, w8, Fits}
+use Rattle.std.proofs.Common.{◌≡◌, ℕ, ◌<◌, ◌≤◌, List, length, get_or, Ok, Err, Result, sym, refl, ap, ◌∙◌, subst, inr, arith, w8, Fits}
 use Rattle.faults.specs.declared.cause.Cause.{Cause}
 use Rattle.syntax.specs.declared.stop.Stop.{Stop}
 use Rattle.syntax.specs.declared.stop.Stop.TheVariants.{Refused, Memory}
@@ -7,10 +7,10 @@ use Rattle.syntax.specs.Entries.{Entry}
 use Rattle.std.proofs.ByRecursion.{All-from_get_or}
 use Rattle.syntax.proofs.Accepted.{accepts_written}
 use Rattle.syntax.specs.Passing.{then}
-use Rattle.syntax.specs.Reading.{read_table, Yields, Begun}
+use Rattle.syntax.specs.Reading.{read_table}
 use Rattle.syntax.specs.Written.{Written, AcceptsWritten}
 use Rattle.names.specs.Declaring.{undeclared_in}
-use Rattle.typing.specs.Judging.{types_in, Typed}
+use Rattle.typing.specs.Judging.{types_in}
 use Rattle.schedule.specs.declared.plan.Plan.{Plan}
 use Rattle.schedule.specs.Edges.{InOrder}
 use Rattle.schedule.specs.Plans.{lead_in, length_in, counted, Planned}

@@ -1,8 +1,6 @@
-use Rattle.std.proofs.Common.{◌≡◌, vec_items, refl, ap, ◌∙◌, rules}
 use Rattle.std.proofs.lemmas.Result.{err_from_is_err_and}
 use Rattle.syntax.specs.Entries.{entries_of}
-use Rattle.tables.specs.Checking.{checked}
-use Rattle.acceptance.proofs.Passing.{written_law, order_of, starved, plan_stopped, plan_accepts}
+use Rattle.acceptance.proofs.Passing.{written_law, order_of, starved, plan_stopped}
 use Rattle.schedule.proofs.Standing.{orderly}
 use Rattle.acceptance.proofs.check.accept.Goals as goal
 
@@ -23,22 +21,3 @@ returns-in_err-bytes c =
     let bytes = c.args.bytes.now in
     rw (p.1, p.2)
     (c.in_ok-plan.ensures.0, starved bytes (entries_of c.in_ok-records.records) c.args.sheet.now (written_law bytes c.type_inv.bytes) c.in_ok-records.ensures c.if-sheet-lt-LEAST_SHEET.false)
-
-pub invariant_of-result : goal.invariant_of-result
-invariant_of-result c =
-    let same : vec_items c.in_ok-bytes.bytes ≡ c.args.bytes.now = search rules in record {
-      accepted = ∣ record {
-        order = ap checked same ∙ c.in_ok-records.ensures;
-        planned = c.in_ok-plan.ensures.1;
-        small = c.in_ok-plan.ensures.2;
-      } ∣₁;
-    }
-
-pub returns : goal.returns
-returns c =
-    let same : vec_items c.in_ok-bytes.bytes ≡ c.args.bytes.now = search rules in (
-      c.if-sheet-lt-LEAST_SHEET.false,
-      c.in_ok-plan.ensures.0,
-      plan_accepts c.args.bytes.now (entries_of c.in_ok-records.records) c.in_ok-plan.plan c.in_ok-records.ensures c.in_ok-plan.ensures.1 c.in_ok-plan.ensures.2,
-      record { bytes_are = same; records_are = c.in_ok-records.ensures; counts_are = refl },
-    )

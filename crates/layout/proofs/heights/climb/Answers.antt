@@ -2,7 +2,6 @@
 use Rattle.std.proofs.Common.{ℕ, List, get_or, take, fold, sym, subst, ap, ◌∙◌, arith}
 use Rattle.std.proofs.ByRecursion.{All-take}
 use Rattle.std.proofs.lemmas.List.{take_all}
-use Rattle.std.proofs.lemmas.List.Sums.{fold_more}
 use Rattle.walks.specs.Edges.{Bounded, no_edge}
 use Rattle.walks.proofs.Through.{graph_bounded, edge_bounded}
 use Rattle.std.specs.List.{AllByRecursion}
@@ -22,12 +21,6 @@ raise-requires c = record {
     ),
   );
 }
-
-pub loop-edge-preserved : goal.loop-edge-preserved
-loop-edge-preserved c =
-    c.raise.ensures ∙
-    ap (λ (x : List ℕ). topped (height_over c.args.from.now) x (get_or c.deref-edge-items.result.now c.loop-edge.edge-index no_edge)) c.loop-edge.invariant ∙
-    sym (fold_more (topped (height_over c.args.from.now)) c.args.from.now c.deref-edge-items.result.now c.loop-edge.edge-index no_edge c.loop-edge-test.true)
 
 pub returns : goal.returns
 unfolding climbed

@@ -14,16 +14,6 @@ loop-init c = (refl, λ l. absurd (omega arith))
 pub climb-next-requires : goal.climb-next-requires
 climb-next-requires c = subst (Low 900000) (sym c.loop.invariant.0) (heights_low c.args.graph.now.edges.items (graph_bounded c.args.graph.now) c.loop.counter (omega arith))
 
-pub returns-then-eq : goal.returns-then-eq
-returns-then-eq c =
-    let same : Decides c.eq.result (c.climb-next.result ≡ c.loop.row) = slice_eq-Decides Decides-eqb c.climb-next.result c.loop.row c.eq.result c.eq.ensures in
-    record {
-      climbs = c.loop.counter;
-      few = omega arith;
-      made = c.loop.invariant.0;
-      still = sym c.climb-next.ensures ∙ same.0 c.if-eq.true;
-    }
-
 clash : (b : Bool) → b ≡ false → b ≡ true → ⊥
 clash b p q = let z : ◌≡◌ {A = ℕ} 0 1 = cc in omega arith
 

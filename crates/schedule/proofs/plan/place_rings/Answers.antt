@@ -1,8 +1,8 @@
-use Rattle.std.proofs.Common.{◌≡◌, ℕ, ◌+◌, get_or, sym, ap, ◌∙◌, arith, rules}
-use Rattle.std.proofs.lemmas.List.{get_or_append_left, length-set}
+use Rattle.std.proofs.Common.{ℕ, ◌+◌, get_or, sym, ap, ◌∙◌, arith, rules}
+use Rattle.std.proofs.lemmas.List.{length-set}
 use Rattle.schedule.specs.declared.plan.Ring.{Ring}
 use Rattle.schedule.specs.Placements.{ring_at}
-use Rattle.schedule.specs.Plans.{slots_before, no_ring}
+use Rattle.schedule.specs.Plans.{no_ring}
 use Rattle.schedule.proofs.Filling.{filled_more}
 use Rattle.schedule.proofs.Taking.{slots_more}
 use Rattle.schedule.proofs.plan.place_rings.Goals as goal
@@ -17,12 +17,4 @@ loop-q-preserved c =
       placed = filled_more (ring_at lengths) no_ring c.loop-q.ring-items q ring (omega (arith, c.loop-q.invariant.long)) (ap (λ (b : ℕ). record { base = b; length = get_or lengths q 0 }) c.loop-q.invariant.slots) c.loop-q.invariant.placed;
       slots = ap (λ (n : ℕ). n + get_or lengths q 0) c.loop-q.invariant.slots ∙ sym (slots_more (λ j. get_or lengths j 0) q);
       bound = search rules;
-    }
-
-pub returns : goal.returns
-returns c =
-    let all : c.loop-q.q ≡ c.args.count = omega (arith, c.loop-q.invariant.long) in
-    record {
-      rings = λ q l. get_or_append_left c.loop-q.ring-items _ no_ring q (omega (arith, c.loop-q.invariant.long)) ∙ c.loop-q.invariant.placed q (omega (arith, c.loop-q.invariant.long));
-      slots = c.loop-q.invariant.slots ∙ ap (slots_before (λ j. get_or c.args.lengths.now j 0)) all;
     }

@@ -1,7 +1,0 @@
-use Rattle.std.proofs.Common.{arith}
-use Rattle.search.proofs.Rows.{low_at}
-use Rattle.search.proofs.row.extend.Goals as goal
-
-pub overflow_add-reached : goal.overflow_add-reached
-overflow_add-reached c =
-    omega (arith, c.lift.ensures, low_at c.args.from.now c.args.edge.now.reader c.in-Some.weight 8192 c.requires.low c.in-Some.is)
