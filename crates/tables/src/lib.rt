@@ -3,3 +3,5 @@
 
 pub mod check;
 pub mod reading;
+#[cfg(test)]
+mod tests;
