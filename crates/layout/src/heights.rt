@@ -8,7 +8,7 @@ use walks::graph::{Graph, NODES};
 
 // One edge's part in a climb: what it reads lies at least its steep weight above its reader.
 fn raise(from: &[u32; NODES], to: &mut [u32; NODES], edge: &Edge)
-    // Required of each edge, since the definitions speak of an edge as a plain record.
+    // Of each edge, since the definitions speak of an edge as a plain record; of heights, whose bounds differ from call to call.
     requires bounded { Bounded edge.now }
     requires low { (Low 1000000 from.now) × (Low 1000000 to.old) }
     ensures { to.new ≡ topped (height_over from.now) to.old edge.now }

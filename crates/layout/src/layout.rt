@@ -18,6 +18,7 @@ pub struct Layout {
     // For each node the length of its ring.
     pub lengths: [u32; NODES],
     // The streams by number: what is read at its newest index comes before its reader.
+    // Those past the number of streams mean nothing.
     pub order: [usize; 32],
 }
 

@@ -79,6 +79,7 @@ pub fn list_references(alloc: Global, records: &[Record]) -> Result<Vec<Referenc
     ensures { IfOk result (λ v. v.items ≡ references [] (map entry_of records.now)) }
 {
     let mut found = Vec::new(alloc);
+    // With its place, since a record's number is the count of its kind before it.
     for (i, r) in records.iter().enumerate() {
         let kind = r.kind();
         let number = count(&records[..i], kind);

@@ -11,9 +11,10 @@ use Rattle.references.specs.declared.reference.Id.{Id}
 use Rattle.references.specs.declared.reference.Reference.{Reference}
 use Rattle.references.specs.References.{references}
 use Rattle.walks.specs.Edges.{Fit, Fits}
-use Rattle.schedule.specs.declared.nodes.Numbering.{Numbering}
+use Rattle.syntax.specs.declared.record.Counts.{Counts}
 use Rattle.schedule.specs.declared.nodes.Nodes.{Nodes}
-use Rattle.schedule.specs.Edges.{Valid, Stands, Orderly, numbered, node_by, id_by, node, id_at, described, no_node, Describes, Near, node_in, told_in, edge_by, edge, edges}
+use Rattle.syntax.specs.Counting.{counts_of}
+use Rattle.schedule.specs.Edges.{Valid, Stands, Orderly, node_by, id_by, node, id_at, described, no_node, Describes, Near, node_in, told_in, edge_by, edge, edges}
 use Rattle.schedule.specs.Plans.{ring_count}
 use Rattle.schedule.proofs.Describing.{openings_few}
 
@@ -78,7 +79,7 @@ module _ (rs : List Entry) (o : Orderly rs) where
   read_kind Stream n h l = omega arith
   read_kind Rule n h l = absurd (h refl)
 
-  near : (r : Reference) → Stands rs r → Near (numbered rs) r
+  near : (r : Reference) → Stands rs r → Near (counts_of rs) r
   near r s = record {
     few = (omega (arith, o.few Channel), omega (arith, o.few Stream));
     numbers = ((node_kind r.reader.kind r.reader.number s.reader).1, (node_kind r.read.kind r.read.number s.read).1);
@@ -86,8 +87,8 @@ module _ (rs : List Entry) (o : Orderly rs) where
     read = (node_kind r.read.kind r.read.number s.read).0;
   }
 
-  pub all_near : (ns : Numbering) → ns ≡ numbered rs → AllByRecursion (Near ns) (references [] rs)
-  all_near ns e = subst (λ (n : Numbering). AllByRecursion (Near n) (references [] rs)) (sym e) (All-weaker (Stands rs) (Near (numbered rs)) near (references [] rs) o.stand)
+  pub all_near : (ns : Counts) → ns ≡ counts_of rs → AllByRecursion (Near ns) (references [] rs)
+  all_near ns e = subst (λ (n : Counts). AllByRecursion (Near n) (references [] rs)) (sym e) (All-weaker (Stands rs) (Near (counts_of rs)) near (references [] rs) o.stand)
 
   fit : (r : Reference) → Stands rs r → Fit (count Channel rs) (count Stream rs) (edge rs r)
   unfolding node
@@ -110,7 +111,7 @@ module _ (rs : List Entry) (o : Orderly rs) where
   told_same : (ns : Nodes) → Describes rs ns → (id : Id) → Valid rs id → (node_in ns id ≡ node rs id) × (told_in ns id ≡ described rs id)
   unfolding node
   told_same ns d id valid =
-      let at : node_in ns id ≡ node rs id = ap (λ (n : Numbering). node_by n.channels n.streams id.kind id.number) d.numbering in
+      let at : node_in ns id ≡ node rs id = ap (λ (n : Counts). node_by n.channels n.streams id.kind id.number) d.counts in
       (at, ap (λ m. get_or ns.told m no_node) at ∙ d.told (node rs id) (node_kind id.kind id.number valid).0 ∙ ap (described rs) (node_back rs id valid))
 
   edge_same : (ns : Nodes) → Describes rs ns → (r : Reference) → Stands rs r → edge_by ns r ≡ edge rs r

@@ -1,9 +1,10 @@
--- The references of a table as edges between numbered nodes: the channels by number, then the streams, then the rules. Assumes nothing.
+-- The references of a table as edges between counts_of nodes: the channels by number, then the streams, then the rules. Assumes nothing.
 use Rattle.std.specs.Prelude.{◌≡◌, ℕ, ◌+◌, ◌-◌, ◌<◌, ◌≤◌, cond, List, [], map, Some, Ok, nat_lt, slice_index_or}
 use Rattle.std.specs.Coded.{→_prop, le_prop}
 use Rattle.std.specs.List.{AllByRecursion, AllByRecursion-prop}
 use Rattle.syntax.specs.declared.record.Kind.{Kind}
 use Rattle.syntax.specs.declared.record.Kind.TheVariants.{Channel, Stream, Rule}
+use Rattle.syntax.specs.Counting.{counts_of}
 use Rattle.syntax.specs.Entries.{Entry, count, limit}
 use Rattle.syntax.specs.Written.{Small}
 use Rattle.names.specs.Declaring.{undeclared_in}
@@ -14,7 +15,7 @@ use Rattle.walks.specs.declared.edge.Edge.{Edge}
 use Rattle.walks.specs.declared.graph.Graph.{Graph}
 use Rattle.schedule.specs.declared.nodes.Node.{Node}
 use Rattle.schedule.specs.declared.nodes.Nodes.{Nodes}
-use Rattle.schedule.specs.declared.nodes.Numbering.{Numbering}
+use Rattle.syntax.specs.declared.record.Counts.{Counts}
 use Rattle.schedule.specs.Graphs.{opening_count, openings, number_of, told}
 
 -- what reading and the check of names show: the limits hold, and every name is declared
@@ -45,10 +46,6 @@ pub record Orderly (rs : List Entry) : Type 0 where
   pub opens : AllByRecursion Opens rs
   pub stand : AllByRecursion (Stands rs) (references [] rs)
 
--- how many channels and streams there are
-abbrev pub numbered : List Entry → Numbering
-numbered rs = record { channels = count Channel rs; streams = count Stream rs }
-
 -- the node of a record of a kind and number, among so many channels and streams
 abbrev pub node_by : ℕ → ℕ → Kind → ℕ → ℕ
 node_by channels streams Channel n = n
@@ -76,11 +73,11 @@ no_node = record { number = 0; opening = 0 }
 
 -- what is known of the nodes of a table
 pub record Describes (rs : List Entry) (ns : Nodes) : Type 0 where
-  pub numbering : ns.numbering ≡ numbered rs
+  pub counts : ns.counts ≡ counts_of rs
   pub told : (m : ℕ) → m < 64 → slice_index_or ns.told m no_node ≡ described rs (id_at rs m)
 
 -- both ends of a reference are nodes
-pub record Near (n : Numbering) (r : Reference) : Type 0 where
+pub record Near (n : Counts) (r : Reference) : Type 0 where
   pub few : (n.channels < 64) × (n.streams < 64)
   pub numbers : (r.reader.number < 64) × (r.read.number < 64)
   pub reader : node_by n.channels n.streams r.reader.kind r.reader.number < 64
@@ -88,7 +85,7 @@ pub record Near (n : Numbering) (r : Reference) : Type 0 where
 
 -- a reference as an edge, by what is known of the nodes
 abbrev pub node_in : Nodes → Id → ℕ
-node_in ns id = node_by ns.numbering.channels ns.numbering.streams id.kind id.number
+node_in ns id = node_by ns.counts.channels ns.counts.streams id.kind id.number
 
 abbrev pub told_in : Nodes → Id → Node
 told_in ns id = slice_index_or ns.told (node_in ns id) no_node

@@ -4,7 +4,7 @@ ghost use Rattle.std.specs.List.{AllByRecursion};
 ghost use Rattle.syntax.specs.Entries.{entry_of};
 ghost use Rattle.schedule.specs.Edges.{Near, IsGraphOf, edge_by};
 
-use crate::nodes::Nodes;
+use crate::nodes::{Nodes, node_of};
 use crate::ordered::OrderedRecords;
 use references::listing::list_references;
 use references::reference::Reference;
@@ -14,11 +14,11 @@ use walks::graph::Graph;
 
 // A reference as an edge.
 fn make_edge(nodes: &Nodes, r: &Reference) -> Edge
-    requires { Near nodes.now.numbering r.now }
+    requires { Near nodes.now.counts r.now }
     ensures { result ≡ edge_by nodes.now r.now }
 {
-    let reader = nodes.numbering.node(r.reader);
-    let read = nodes.numbering.node(r.read);
+    let reader = node_of(nodes.counts, r.reader);
+    let read = node_of(nodes.counts, r.read);
     let entry = SheetEntry {
         reader: nodes.told[reader].number,
         read: nodes.told[read].number,
@@ -38,7 +38,7 @@ fn make_edges(
     references: &[Reference],
     nodes: &Nodes,
 ) -> Result<Vec<Edge>, AllocError>
-    requires { AllByRecursion (Near nodes.now.numbering) references.now }
+    requires { AllByRecursion (Near nodes.now.counts) references.now }
     ensures { IfOk result (λ v. v.items ≡ map (edge_by nodes.now) references.now) }
 {
     references
@@ -55,8 +55,8 @@ pub(crate) fn make_graph(alloc: Global, ordered: &OrderedRecords) -> Result<Grap
     let references = list_references(alloc, &ordered.records)?;
     let edges = make_edges(alloc, &references, &nodes)?;
     Ok(Graph {
-        channels: nodes.numbering.channels,
-        streams: nodes.numbering.streams,
+        channels: nodes.counts.channels,
+        streams: nodes.counts.streams,
         edges,
     })
 }

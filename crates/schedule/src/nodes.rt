@@ -2,21 +2,14 @@
 ghost use Rattle.std.specs.Prelude.{◌≡◌, ◌<◌, map, Some};
 ghost use Rattle.syntax.specs.Entries.{entry_of};
 ghost use Rattle.schedule.specs.Graphs.{opening_count};
-ghost use Rattle.schedule.specs.Edges.{numbered, node_by, id_by, described, Describes};
+ghost use Rattle.schedule.specs.Edges.{node_by, id_by, described, Describes};
 
 use crate::ordered::OrderedRecords;
 use references::numbering::record_number;
 use references::reference::Id;
 use std::array;
-use syntax::record::{Kind, Record, count};
+use syntax::record::{Counts, Kind, Record};
 use walks::graph::NODES;
-
-// How many channels and streams a table has, by which its nodes are numbered.
-#[derive(Clone, Copy)]
-pub(crate) struct Numbering {
-    pub(crate) channels: usize,
-    pub(crate) streams: usize,
-}
 
 // What an edge tells of a record at either end.
 #[derive(Clone, Copy, Default)]
@@ -27,57 +20,46 @@ pub(crate) struct Node {
     pub(crate) opening: u8,
 }
 
-// The nodes of a table: how they are numbered, and what an edge tells of each, looked up once.
+// The nodes of a table: the counts by which they are numbered, and what an edge tells of each, looked up once.
 // An array: a table has no more nodes than this, and no memory is asked for.
 #[derive(Clone, Copy)]
 pub(crate) struct Nodes {
-    pub(crate) numbering: Numbering,
+    pub(crate) counts: Counts,
     pub(crate) told: [Node; NODES],
 }
 
-impl Numbering {
-    // The numbering of a table's records.
-    fn new(records: &[Record]) -> Numbering
-        ensures { result ≡ numbered (map entry_of records.now) }
-    {
-        let channels = count(records, Kind::Channel);
-        let streams = count(records, Kind::Stream);
-        Numbering { channels, streams }
+// The node of a record.
+pub(crate) fn node_of(counts: Counts, id: Id) -> usize
+    requires { (id.number < 64) × ((counts.channels < 64) × (counts.streams < 64)) }
+    ensures { result ≡ node_by counts.channels counts.streams id.kind id.number }
+{
+    match id.kind {
+        Kind::Channel => id.number,
+        Kind::Stream => counts.channels + id.number,
+        Kind::Rule => counts.channels + counts.streams + id.number,
     }
+}
 
-    // The node of a record.
-    pub(crate) fn node(self, id: Id) -> usize
-        requires { (id.number < 64) × ((self.channels < 64) × (self.streams < 64)) }
-        ensures { result ≡ node_by self.channels self.streams id.kind id.number }
-    {
-        match id.kind {
-            Kind::Channel => id.number,
-            Kind::Stream => self.channels + id.number,
-            Kind::Rule => self.channels + self.streams + id.number,
+// The record of a node.
+fn id_of(counts: Counts, node: usize) -> Id
+    requires { (counts.channels < 64) × (counts.streams < 64) }
+    ensures { result ≡ id_by counts.channels counts.streams node }
+{
+    let rules = counts.channels + counts.streams;
+    if node < counts.channels {
+        Id {
+            kind: Kind::Channel,
+            number: node,
         }
-    }
-
-    // The record of a node.
-    fn id(self, node: usize) -> Id
-        requires { (self.channels < 64) × (self.streams < 64) }
-        ensures { result ≡ id_by self.channels self.streams node }
-    {
-        let rules = self.channels + self.streams;
-        if node < self.channels {
-            Id {
-                kind: Kind::Channel,
-                number: node,
-            }
-        } else if node < rules {
-            Id {
-                kind: Kind::Stream,
-                number: node - self.channels,
-            }
-        } else {
-            Id {
-                kind: Kind::Rule,
-                number: node - rules,
-            }
+    } else if node < rules {
+        Id {
+            kind: Kind::Stream,
+            number: node - counts.channels,
+        }
+    } else {
+        Id {
+            kind: Kind::Rule,
+            number: node - rules,
         }
     }
 }
@@ -110,8 +92,8 @@ impl Nodes {
     pub(crate) fn new(ordered: &OrderedRecords) -> Nodes
         ensures { Describes (map entry_of ordered.now.records.items) result }
     {
-        let numbering = Numbering::new(&ordered.records);
-        let told = array::from_fn(|m| describe(ordered, numbering.id(m)));
-        Nodes { numbering, told }
+        let counts = Counts::of(&ordered.records);
+        let told = array::from_fn(|m| describe(ordered, id_of(counts, m)));
+        Nodes { counts, told }
     }
 }

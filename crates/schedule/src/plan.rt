@@ -108,6 +108,7 @@ pub fn make_plan(
     ordered: &OrderedRecords,
     sheet: &mut [SheetEntry],
 ) -> Result<Plan, Stop>
+    // The sheet is the caller's memory, whose length the check tests once.
     requires { 33 ≤ length sheet.old }
     ensures { Scheduled (map entry_of ordered.now.records.items) sheet.old sheet.new result }
 {

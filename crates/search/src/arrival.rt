@@ -70,6 +70,7 @@ pub(crate) fn first_arrival(
     target: Target,
     limit: usize,
 ) -> Option<Arrival>
+    // Of the row, since the bounds of rows differ from call to call.
     requires low { AllByRecursion (Low 0) start }
     requires few { limit ≤ 33 }
     requires nodes { target.end ≤ 64 }
@@ -77,6 +78,7 @@ pub(crate) fn first_arrival(
     ensures { MatchOption result (Missed graph.now.edges.items start target limit) (First graph.now.edges.items start target limit) }
 {
     let mut row = start;
+    // The length is no index: what a walk must weigh depends on it.
     for length in 1..=limit {
         row = step(graph, &row);
         let least = 64 * length + target.over;

@@ -17,6 +17,7 @@ fn least_closed(graph: &Graph) -> Option<Arrival>
     let mut best = None;
     let mut limit = graph.streams;
     let end = graph.channels + graph.streams;
+    // By number, since a search begins at a node and not at what stands there.
     for node in graph.channels..end {
         // What passes through an earlier stream was met there, so only those left count.
         let most = limit.min(end - node);

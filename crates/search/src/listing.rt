@@ -13,6 +13,7 @@ use walks::graph::Graph;
 
 // The rows of walks of 0 to `count` edges.
 fn layers(graph: &Graph, start: Row, count: usize) -> [Row; 34]
+    // Of the row, since the bounds of rows differ from call to call.
     requires low { AllByRecursion (Low 0) start }
     requires few { count ≤ 33 }
     ensures { Layers graph.now.edges.items start count result }
@@ -28,6 +29,7 @@ fn layers(graph: &Graph, start: Row, count: usize) -> [Row; 34]
 
 // Whether an edge leads from the row to the weight `left` at `node`.
 fn leads_into(from: &Row, edge: &Edge, node: usize, left: u32) -> bool
+    // Of each edge, since the definitions speak of an edge as a plain record; of rows, whose bounds differ from call to call.
     requires bounded { Bounded edge.now }
     requires low { AllByRecursion (Low 8192) from.now }
     ensures { result ≡ into from.now node left edge.now }
@@ -37,6 +39,7 @@ fn leads_into(from: &Row, edge: &Edge, node: usize, left: u32) -> bool
 
 // The first edge that leads from the row to the weight `left` at `node`.
 fn find_into<'a>(graph: &'a Graph, from: &Row, node: usize, left: u32) -> Option<&'a Edge>
+    // Of the row, since the bounds of rows differ from call to call.
     requires { AllByRecursion (Low 8192) from.now }
     ensures { option_copied result ≡ find (into from.now node left) graph.now.edges.items }
 {
@@ -48,6 +51,7 @@ fn find_into<'a>(graph: &'a Graph, from: &Row, node: usize, left: u32) -> Option
 
 // Lists a heaviest walk of the arrival's length to its node.
 pub(crate) fn list_walk(graph: &Graph, start: Row, arrival: Arrival, sheet: &mut [SheetEntry])
+    // Of the row, since the bounds of rows differ from call to call.
     requires low { AllByRecursion (Low 0) start }
     requires few { arrival.length ≤ 33 }
     requires space { arrival.length ≤ length sheet.old }
@@ -58,6 +62,7 @@ pub(crate) fn list_walk(graph: &Graph, start: Row, arrival: Arrival, sheet: &mut
     let rows = layers(graph, start, arrival.length);
     let mut node = arrival.node;
     let mut left = rows[arrival.length][node].unwrap();
+    // By number, since each turn looks along a row and writes the entry of the same number.
     for k in (0..arrival.length).rev() {
         let edge = find_into(graph, &rows[k], node, left).unwrap();
         sheet[k] = edge.entry;

@@ -23,6 +23,7 @@ pub(crate) fn lift(edge: &Edge) -> u32
 
 // One edge's part in a step; most often the place is no lower already, and nothing is written.
 fn extend(from: &Row, to: &mut Row, edge: &Edge)
+    // Of each edge, since the definitions speak of an edge as a plain record; of rows, whose bounds differ from call to call.
     requires bounded { Bounded edge.now }
     requires low { AllByRecursion (Low 8192) from.now }
     ensures { to.new ≡ extended from.now to.old edge.now }
@@ -40,6 +41,7 @@ fn extend(from: &Row, to: &mut Row, edge: &Edge)
 
 // The row of the walks that have one edge more.
 pub(crate) fn step(graph: &Graph, from: &Row) -> Row
+    // Of the row, since the bounds of rows differ from call to call.
     requires { AllByRecursion (Low 8192) from.now }
     ensures { result ≡ stepped graph.now.edges.items from.now }
 {

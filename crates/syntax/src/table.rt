@@ -64,6 +64,7 @@ impl<'a> Reader<'a> {
         ensures { Yields (self.old.at < length self.old.bytes.now) result (entries (length self.old.bytes.now) [] self.old.bytes.now self.old.at) }
     {
         let mut records = Vec::new(alloc);
+        // A record's own length says where the next one begins.
         while self.at < self.bytes.len() {
             let record = self.read_record(alloc, &records)?;
             records.push(record)?;
