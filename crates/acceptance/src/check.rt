@@ -25,12 +25,12 @@ fn accept(alloc: Global, bytes: &[u8], sheet: &mut [SheetEntry]) -> Result<Table
         return Err(Stop::Refused(Cause::ShortSheet(sheet.len())));
     }
     let records = read_checked(alloc, bytes)?;
-    let ordered = OrderedRecords { records };
+    let ordered = OrderedRecords { records: &records };
     let plan = make_plan(alloc, &ordered, sheet)?;
     let bytes = bytes.to_vec(alloc)?;
     Ok(Table {
         bytes,
-        records: ordered.records,
+        records,
         plan,
     })
 }

@@ -25,10 +25,10 @@ fn raise(from: &[u32; NODES], to: &mut [u32; NODES], edge: &Edge)
 fn climb(graph: &Graph, from: &[u32; NODES]) -> [u32; NODES]
     // A bound of the numbers of an array differs from call to call, so no type carries it.
     requires { Low 900000 from.now }
-    ensures { result ≡ climbed graph.now.edges.items from.now }
+    ensures { result ≡ climbed graph.now.edges.now from.now }
 {
     let mut to = *from;
-    for edge in &graph.edges {
+    for edge in graph.edges {
         raise(from, &mut to, edge);
     }
     to
@@ -36,7 +36,7 @@ fn climb(graph: &Graph, from: &[u32; NODES]) -> [u32; NODES]
 
 // Heights that a climb leaves as they are; none where even the last climb changes them.
 pub(crate) fn resting_heights(graph: &Graph) -> Option<[u32; NODES]>
-    ensures { MatchOption result (climbed graph.now.edges.items (heights graph.now.edges.items 33) ≢ heights graph.now.edges.items 33) (λ h. Resting graph.now.edges.items h) }
+    ensures { MatchOption result (climbed graph.now.edges.now (heights graph.now.edges.now 33) ≢ heights graph.now.edges.now 33) (λ h. Resting graph.now.edges.now h) }
 {
     let mut row = [0; NODES];
     // A walk that comes nowhere twice has at most 33 edges, so one climb more tells.

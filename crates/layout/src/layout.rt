@@ -24,7 +24,7 @@ pub struct Layout {
 
 // The layout of the nodes; none where a closed walk weighs 0 or more.
 pub fn lay_out(graph: &Graph) -> Option<Layout>
-    ensures { MatchOption result (Falling (graph_of graph.now.edges.items) → ⊥) (λ l. Laid graph.now.channels graph.now.streams graph.now.edges.items l) }
+    ensures { MatchOption result (Falling (graph_of graph.now.edges.now) → ⊥) (λ l. Laid graph.now.channels graph.now.streams graph.now.edges.now l) }
 {
     let heights = resting_heights(graph)?;
     let leads = leads_of(&heights);

@@ -37,10 +37,10 @@ fn widen(lengths: &mut [u32; NODES], edge: &Edge, leads: &[u32; NODES])
 pub(crate) fn ring_lengths(graph: &Graph, leads: &[u32; NODES]) -> [u32; NODES]
     // A bound of the numbers of an array differs from call to call, so no type carries it.
     requires { Low 1000000 leads.now }
-    ensures { result ≡ sizes graph.now.edges.items leads.now }
+    ensures { result ≡ sizes graph.now.edges.now leads.now }
 {
     let mut lengths = [1; NODES];
-    for edge in &graph.edges {
+    for edge in graph.edges {
         widen(&mut lengths, edge, leads);
     }
     lengths

@@ -6,7 +6,6 @@ use Rattle.syntax.specs.Entries.{Entry, count}
 use Rattle.references.specs.References.{references}
 use Rattle.walks.specs.declared.edge.Edge.{Edge}
 use Rattle.walks.specs.declared.edge.SheetEntry.{SheetEntry}
-use Rattle.walks.specs.declared.graph.Graph.{Graph}
 use Rattle.walks.specs.Walks.{Settled, Ring}
 use Rattle.walks.specs.Edges as plain
 use Rattle.walks.specs.Edges.{Fits}
@@ -14,7 +13,7 @@ use Rattle.layout.specs.declared.layout.Layout.{Layout}
 use Rattle.layout.specs.Layouts as layouts
 use Rattle.schedule.specs.declared.plan.Plan.{Plan}
 use Rattle.schedule.specs.Graphs.{graph, told, IsChannel}
-use Rattle.schedule.specs.Edges.{Orderly, IsGraphOf, node, id_at, edge, edges}
+use Rattle.schedule.specs.Edges.{Orderly, node, id_at, edge, edges}
 use Rattle.schedule.specs.Plans.{ring_count, lead_by, Measured, slots_before, lead_in, length_in, ring_in, Ordered, Planned}
 use Rattle.schedule.specs.Placements.{ring_at, Places}
 use Rattle.schedule.specs.Walking.{BlamesWalk, Weighed}
@@ -80,19 +79,20 @@ module _ (rs : List Entry) (o : Orderly rs) where
       subst (λ (x : List Edge). Fits channels streams x) (sym ee)
       (subst (λ (x : ℕ). Fits channels x (edges rs)) (sym es') (subst (λ (x : ℕ). Fits x (count Stream rs) (edges rs)) (sym ec) (all_fit rs o)))
 
-  module _ (g : Graph) (t : IsGraphOf rs g) (old new : List SheetEntry) where
-    weighed_of : (r : Result Layout Cause) → Weighed g.channels g.streams g.edges.items old new r → Weighed (count Channel rs) (count Stream rs) (edges rs) old new r
+  -- what is weighed of them is weighed of the table
+  module _ (channels streams : ℕ) (es : List Edge) (ec : channels ≡ count Channel rs) (es' : streams ≡ count Stream rs) (ee : es ≡ edges rs) (old new : List SheetEntry) where
+    weighed_of : (r : Result Layout Cause) → Weighed channels streams es old new r → Weighed (count Channel rs) (count Stream rs) (edges rs) old new r
     weighed_of r w =
-        subst (λ (x : List Edge). Weighed (count Channel rs) (count Stream rs) x old new r) t.edges
-        (subst (λ (x : ℕ). Weighed (count Channel rs) x g.edges.items old new r) t.streams (subst (λ (x : ℕ). Weighed x g.streams g.edges.items old new r) t.channels w))
+        subst (λ (x : List Edge). Weighed (count Channel rs) (count Stream rs) x old new r) ee
+        (subst (λ (x : ℕ). Weighed (count Channel rs) x es old new r) es' (subst (λ (x : ℕ). Weighed x streams es old new r) ec w))
 
-    pub blames_of : (c : Cause) → Weighed g.channels g.streams g.edges.items old new (Err c) → BlamesWalk (graph rs) IsChannel (told rs) old new c
+    pub blames_of : (c : Cause) → Weighed channels streams es old new (Err c) → BlamesWalk (graph rs) IsChannel (told rs) old new c
     blames_of c w = blames_down rs o old new c (weighed_of (Err c) w)
 
-    pub planned_of : (rules : ℕ) → rules ≡ count Rule rs → (l : Layout) (p : Plan) → Weighed g.channels g.streams g.edges.items old new (Ok l) → Places l g.channels g.streams rules p → (new ≡ old) × Planned rs p
+    pub planned_of : (rules : ℕ) → rules ≡ count Rule rs → (l : Layout) (p : Plan) → Weighed channels streams es old new (Ok l) → Places l channels streams rules p → (new ≡ old) × Planned rs p
     planned_of rules er l p w places =
         let v : Weighed (count Channel rs) (count Stream rs) (edges rs) old new (Ok l) = weighed_of (Ok l) w in
-        (v.0, planned rs o l v.1 v.2 g.channels g.streams rules p t.channels t.streams er places)
+        (v.0, planned rs o l v.1 v.2 channels streams rules p ec es' er places)
 
 -- where the rings of a plan take too many slots, so do those of the table
 pub overfull : (rs : List Entry) (p : Plan) → Planned rs p → 2048 < p.counts.slots → Overfull rs p.counts.slots

@@ -12,7 +12,6 @@ use Rattle.references.specs.declared.reference.Id.{Id}
 use Rattle.references.specs.declared.reference.Reference.{Reference}
 use Rattle.references.specs.References.{references}
 use Rattle.walks.specs.declared.edge.Edge.{Edge}
-use Rattle.walks.specs.declared.graph.Graph.{Graph}
 use Rattle.schedule.specs.declared.nodes.Node.{Node}
 use Rattle.schedule.specs.declared.nodes.Nodes.{Nodes}
 use Rattle.syntax.specs.declared.record.Counts.{Counts}
@@ -104,12 +103,6 @@ edge rs r = record { entry = told rs r; reader = node rs r.reader; read = node r
 
 abbrev pub edges : List Entry → List Edge
 edges rs = map (edge rs) (references [] rs)
-
--- the graph of a table
-pub record IsGraphOf (rs : List Entry) (g : Graph) : Type 0 where
-  pub channels : g.channels ≡ count Channel rs
-  pub streams : g.streams ≡ count Stream rs
-  pub edges : g.edges.items ≡ edges rs
 
 -- ---- records are orderly in one way at most
 Stands-prop : (rs : List Entry) (r : Reference) → IsProp (Stands rs r)

@@ -2,7 +2,7 @@
 ghost use Rattle.std.specs.Prelude.{◌≡◌, map, IfOk};
 ghost use Rattle.std.specs.List.{AllByRecursion};
 ghost use Rattle.syntax.specs.Entries.{entry_of};
-ghost use Rattle.schedule.specs.Edges.{Near, IsGraphOf, edge_by};
+ghost use Rattle.schedule.specs.Edges.{Near, edge_by, edges};
 
 use crate::nodes::{Nodes, node_of};
 use crate::ordered::OrderedRecords;
@@ -10,7 +10,6 @@ use references::listing::list_references;
 use references::reference::Reference;
 use std::alloc::{AllocError, Global};
 use walks::edge::{Edge, SheetEntry};
-use walks::graph::Graph;
 
 // A reference as an edge.
 fn make_edge(nodes: &Nodes, r: &Reference) -> Edge
@@ -47,16 +46,13 @@ fn make_edges(
         .collect(alloc)
 }
 
-// The references of a table as the edges of a graph, in reading order.
-pub(crate) fn make_graph(alloc: Global, ordered: &OrderedRecords) -> Result<Graph, AllocError>
-    ensures { IfOk result (IsGraphOf (map entry_of ordered.now.records.items)) }
+// The references of a table as edges, in reading order.
+pub(crate) fn list_edges(
+    alloc: Global,
+    ordered: &OrderedRecords<'_>,
+) -> Result<Vec<Edge>, AllocError>
+    ensures { IfOk result (λ v. v.items ≡ edges (map entry_of ordered.now.records.now)) }
 {
-    let nodes = Nodes::new(ordered);
-    let references = list_references(alloc, &ordered.records)?;
-    let edges = make_edges(alloc, &references, &nodes)?;
-    Ok(Graph {
-        channels: nodes.counts.channels,
-        streams: nodes.counts.streams,
-        edges,
-    })
+    let references = list_references(alloc, ordered.records)?;
+    make_edges(alloc, &references, &Nodes::new(ordered))
 }

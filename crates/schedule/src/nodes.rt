@@ -75,10 +75,10 @@ fn openings_of(r: &Record) -> usize
 }
 
 // What an edge tells of the record with an id.
-fn describe(ordered: &OrderedRecords, id: Id) -> Node
-    ensures { result ≡ described (map entry_of ordered.now.records.items) id }
+fn describe(ordered: &OrderedRecords<'_>, id: Id) -> Node
+    ensures { result ≡ described (map entry_of ordered.now.records.now) id }
 {
-    match record_number(&ordered.records, id) {
+    match record_number(ordered.records, id) {
         Some(number) => Node {
             number,
             opening: openings_of(&ordered.records[number]) as u8,
@@ -89,10 +89,10 @@ fn describe(ordered: &OrderedRecords, id: Id) -> Node
 
 impl Nodes {
     // The nodes of a table.
-    pub(crate) fn new(ordered: &OrderedRecords) -> Nodes
-        ensures { Describes (map entry_of ordered.now.records.items) result }
+    pub(crate) fn new(ordered: &OrderedRecords<'_>) -> Nodes
+        ensures { Describes (map entry_of ordered.now.records.now) result }
     {
-        let counts = Counts::of(&ordered.records);
+        let counts = Counts::of(ordered.records);
         let told = array::from_fn(|m| describe(ordered, id_of(counts, m)));
         Nodes { counts, told }
     }

@@ -6,8 +6,8 @@ ghost use Rattle.schedule.specs.Edges.{Orderly, Orderly-prop};
 use syntax::record::Record;
 
 // The records of a table, of which no kind has too many and each reference stands between two.
-#[derive(Drop)]
-pub struct OrderedRecords {
-    pub records: Vec<Record>,
-    pub ghost orderly: { Orderly (map entry_of records.items) } by { Orderly-prop (map entry_of records.items) },
+#[derive(Clone, Copy)]
+pub struct OrderedRecords<'a> {
+    pub records: &'a [Record],
+    pub ghost orderly: { Orderly (map entry_of records.now) } by { Orderly-prop (map entry_of records.now) },
 }

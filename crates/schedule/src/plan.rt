@@ -5,14 +5,14 @@ ghost use Rattle.schedule.specs.Placements.{Consecutive, Places};
 ghost use Rattle.schedule.specs.Scheduling.{Scheduled};
 ghost use Rattle.schedule.specs.Lines.{size_text};
 
-use crate::edges::make_graph;
+use crate::edges::list_edges;
 use crate::ordered::OrderedRecords;
 use crate::walking::weigh_walks;
 use faults::cause::Cause;
 use layout::layout::Layout;
 use std::alloc::Global;
 use std::fmt;
-use syntax::record::{self, Kind, count};
+use syntax::record;
 use syntax::stop::Stop;
 use walks::edge::SheetEntry;
 use walks::graph::{Graph, NODES};
@@ -105,16 +105,22 @@ fn lay_plan(layout: &Layout, graph: &Graph, rules: usize) -> Plan
 // The plan of a table in order, or why there is none; a walk to blame is then told in the sheet's first entries.
 pub fn make_plan(
     alloc: Global,
-    ordered: &OrderedRecords,
+    ordered: &OrderedRecords<'_>,
     sheet: &mut [SheetEntry],
 ) -> Result<Plan, Stop>
     // The sheet is the caller's memory, whose length the check tests once.
     requires { 33 ≤ length sheet.old }
-    ensures { Scheduled (map entry_of ordered.now.records.items) sheet.old sheet.new result }
+    ensures { Scheduled (map entry_of ordered.now.records.now) sheet.old sheet.new result }
 {
-    let graph = make_graph(alloc, ordered)?;
+    let edges = list_edges(alloc, ordered)?;
+    let counts = record::Counts::of(ordered.records);
+    let graph = Graph {
+        channels: counts.channels,
+        streams: counts.streams,
+        edges: &edges,
+    };
     let layout = weigh_walks(&graph, sheet)?;
-    let plan = lay_plan(&layout, &graph, count(&ordered.records, Kind::Rule));
+    let plan = lay_plan(&layout, &graph, counts.rules);
     if plan.counts.slots > MOST_SLOTS {
         return Err(Stop::Refused(Cause::Slots(plan.counts.slots)));
     }

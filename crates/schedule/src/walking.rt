@@ -21,7 +21,7 @@ fn channel_leads(leads: &[u32; NODES], channels: usize) -> bool
 pub(crate) fn weigh_walks(graph: &Graph, sheet: &mut [SheetEntry]) -> Result<Layout, Cause>
     // The sheet is the caller's memory, whose length the check tests once.
     requires { 33 ≤ length sheet.old }
-    ensures { Weighed graph.now.channels graph.now.streams graph.now.edges.items sheet.old sheet.new result }
+    ensures { Weighed graph.now.channels graph.now.streams graph.now.edges.now sheet.old sheet.new result }
 {
     let Some(layout) = lay_out(graph) else {
         return match find_closed_walk(graph, sheet) {

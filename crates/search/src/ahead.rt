@@ -10,10 +10,10 @@ use walks::graph::{Graph, NODES};
 
 // Some exactly where a walk to a channel weighs more than 0: then such a walk of so many references, which comes to no node twice, stands in the sheet's first entries.
 pub fn find_channel_walk(graph: &Graph, sheet: &mut [SheetEntry]) -> Option<usize>
-    requires falls { Falling (graph_of graph.now.edges.items) }
+    requires falls { Falling (graph_of graph.now.edges.now) }
     // The sheet is the caller's memory, whose length the check tests once.
     requires space { 33 ≤ length sheet.old }
-    ensures { MatchOption result (Settled (graph_of graph.now.edges.items) (Channel graph.now.channels) × (sheet.new ≡ sheet.old)) (λ k. TellsAhead (graph_of graph.now.edges.items) (Channel graph.now.channels) told sheet.old sheet.new k) }
+    ensures { MatchOption result (Settled (graph_of graph.now.edges.now) (Channel graph.now.channels) × (sheet.new ≡ sheet.old)) (λ k. TellsAhead (graph_of graph.now.edges.now) (Channel graph.now.channels) told sheet.old sheet.new k) }
 {
     let start = [Some(0); NODES];
     let target = Target::channels(graph.channels);

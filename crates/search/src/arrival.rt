@@ -75,7 +75,7 @@ pub(crate) fn first_arrival(
     requires few { limit ≤ 33 }
     requires nodes { target.end ≤ 64 }
     requires light { target.over ≤ 1 }
-    ensures { MatchOption result (Missed graph.now.edges.items start target limit) (First graph.now.edges.items start target limit) }
+    ensures { MatchOption result (Missed graph.now.edges.now start target limit) (First graph.now.edges.now start target limit) }
 {
     let mut row = start;
     // The length is no index: what a walk must weigh depends on it.

@@ -12,7 +12,7 @@ use walks::graph::Graph;
 
 // The arrival of a closed walk of the fewest edges that weighs 0 or more, from any stream.
 fn least_closed(graph: &Graph) -> Option<Arrival>
-    ensures { MatchOption result (Unclosed graph.now.edges.items graph.now.channels graph.now.streams graph.now.streams) (Fewest graph.now.edges.items graph.now.channels graph.now.streams) }
+    ensures { MatchOption result (Unclosed graph.now.edges.now graph.now.channels graph.now.streams graph.now.streams) (Fewest graph.now.edges.now graph.now.channels graph.now.streams) }
 {
     let mut best = None;
     let mut limit = graph.streams;
@@ -33,7 +33,7 @@ fn least_closed(graph: &Graph) -> Option<Arrival>
 pub fn find_closed_walk(graph: &Graph, sheet: &mut [SheetEntry]) -> Option<usize>
     // The sheet is the caller's memory, whose length the check tests once.
     requires space { 33 ≤ length sheet.old }
-    ensures { MatchOption result (Falling (graph_of graph.now.edges.items) × (sheet.new ≡ sheet.old)) (λ k. TellsClosed (graph_of graph.now.edges.items) told sheet.old sheet.new k) }
+    ensures { MatchOption result (Falling (graph_of graph.now.edges.now) × (sheet.new ≡ sheet.old)) (λ k. TellsClosed (graph_of graph.now.edges.now) told sheet.old sheet.new k) }
 {
     let found = least_closed(graph)?;
     list_walk(graph, start_at(found.node), found, sheet);

@@ -16,7 +16,7 @@ fn layers(graph: &Graph, start: Row, count: usize) -> [Row; 34]
     // Of the row, since the bounds of rows differ from call to call.
     requires low { AllByRecursion (Low 0) start }
     requires few { count ≤ 33 }
-    ensures { Layers graph.now.edges.items start count result }
+    ensures { Layers graph.now.edges.now start count result }
 {
     let mut rows = [start; 34];
     let mut row = start;
@@ -41,7 +41,7 @@ fn leads_into(from: &Row, edge: &Edge, node: usize, left: u32) -> bool
 fn find_into<'a>(graph: &'a Graph, from: &Row, node: usize, left: u32) -> Option<&'a Edge>
     // Of the row, since the bounds of rows differ from call to call.
     requires { AllByRecursion (Low 8192) from.now }
-    ensures { option_copied result ≡ find (into from.now node left) graph.now.edges.items }
+    ensures { option_copied result ≡ find (into from.now node left) graph.now.edges.now }
 {
     graph
         .edges
@@ -56,8 +56,8 @@ pub(crate) fn list_walk(graph: &Graph, start: Row, arrival: Arrival, sheet: &mut
     requires few { arrival.length ≤ 33 }
     requires space { arrival.length ≤ length sheet.old }
     requires node { arrival.node < 64 }
-    requires reached { reaches (slice_index_or (layer graph.now.edges.items start arrival.length) arrival.node None) 0 ≡ true }
-    ensures { Listed graph.now.edges.items start arrival sheet.old sheet.new }
+    requires reached { reaches (slice_index_or (layer graph.now.edges.now start arrival.length) arrival.node None) 0 ≡ true }
+    ensures { Listed graph.now.edges.now start arrival sheet.old sheet.new }
 {
     let rows = layers(graph, start, arrival.length);
     let mut node = arrival.node;

@@ -43,10 +43,10 @@ fn extend(from: &Row, to: &mut Row, edge: &Edge)
 pub(crate) fn step(graph: &Graph, from: &Row) -> Row
     // Of the row, since the bounds of rows differ from call to call.
     requires { AllByRecursion (Low 8192) from.now }
-    ensures { result ≡ stepped graph.now.edges.items from.now }
+    ensures { result ≡ stepped graph.now.edges.now from.now }
 {
     let mut to = [None; NODES];
-    for edge in &graph.edges {
+    for edge in graph.edges {
         extend(from, &mut to, edge);
     }
     to

@@ -1,5 +1,5 @@
 -- Edges within the limits are bounded, and only streams are read and read too. Assumes nothing.
-use Rattle.std.proofs.Common.{◌≡◌, ℕ, ◌<◌, List, length, get_or, sym, subst, arith}
+use Rattle.std.proofs.Common.{ℕ, ◌<◌, List, length, get_or, arith}
 use Rattle.std.specs.List.{AllByRecursion}
 use Rattle.std.proofs.ByRecursion.{All-weaker, All-get_or}
 use Rattle.walks.specs.declared.edge.Edge.{Edge}
@@ -21,9 +21,9 @@ module _ (channels streams : ℕ) (es : List Edge) (fits : Fits channels streams
       (λ e f. record { reader = f.reader; read = omega (arith, f.read, fits.few_channels, fits.few_streams); drop = f.drop; opening = f.opening }) es fits.edges
 
 -- and so the edges of every graph
-pub graph_bounded : (g : Graph) → AllByRecursion Bounded g.edges.items
-graph_bounded g = all_bounded g.channels g.streams g.edges.items g.fits
+pub graph_bounded : (g : Graph) → AllByRecursion Bounded g.edges.now
+graph_bounded g = all_bounded g.channels g.streams g.edges.now g.fits
 
--- one at a time, as a loop over them has them
-pub edge_bounded : (g : Graph) (es : List Edge) → es ≡ g.edges.items → (i : ℕ) (d : Edge) → i < length es → Bounded (get_or es i d)
-edge_bounded g es is i d l = All-get_or Bounded es i d l (subst (AllByRecursion Bounded) (sym is) (graph_bounded g))
+-- and so each of them
+pub edge_bounded : (g : Graph) (i : ℕ) (d : Edge) → i < length g.edges.now → Bounded (get_or g.edges.now i d)
+edge_bounded g i d l = All-get_or Bounded g.edges.now i d l (graph_bounded g)

@@ -7,10 +7,10 @@ use crate::edge::Edge;
 pub const NODES: usize = 64;
 
 // The references of a table as the edges of a graph. No channel reads, no rule is read, and there are at most 16 channels and 32 streams.
-#[derive(Drop)]
-pub struct Graph {
+#[derive(Clone, Copy)]
+pub struct Graph<'a> {
     pub channels: usize,
     pub streams: usize,
-    pub edges: Vec<Edge>,
-    pub ghost fits: { Fits channels streams edges.items } by { Fits-prop channels streams edges.items },
+    pub edges: &'a [Edge],
+    pub ghost fits: { Fits channels streams edges.now } by { Fits-prop channels streams edges.now },
 }

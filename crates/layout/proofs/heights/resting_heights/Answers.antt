@@ -12,7 +12,7 @@ unfolding heights
 loop-init c = (refl, λ l. absurd (omega arith))
 
 pub climb-next-requires : goal.climb-next-requires
-climb-next-requires c = subst (Low 900000) (sym c.loop.invariant.0) (heights_low c.args.graph.now.edges.items (graph_bounded c.args.graph.now) c.loop.counter (omega arith))
+climb-next-requires c = subst (Low 900000) (sym c.loop.invariant.0) (heights_low c.args.graph.now.edges.now (graph_bounded c.args.graph.now) c.loop.counter (omega arith))
 
 clash : (b : Bool) → b ≡ false → b ≡ true → ⊥
 clash b p q = let z : ◌≡◌ {A = ℕ} 0 1 = cc in omega arith
@@ -20,13 +20,13 @@ clash b p q = let z : ◌≡◌ {A = ℕ} 0 1 = cc in omega arith
 pub loop-preserved : goal.loop-preserved
 loop-preserved c =
     let same : Decides c.eq.result (c.climb-next.result ≡ c.loop.row) = slice_eq-Decides Decides-eqb c.climb-next.result c.loop.row c.eq.result c.eq.ensures in
-    let next : c.climb-next.result ≡ heights c.args.graph.now.edges.items (c.loop.counter + 1) =
-    c.climb-next.ensures ∙ ap (climbed c.args.graph.now.edges.items) c.loop.invariant.0 ∙ sym (heights_more c.args.graph.now.edges.items c.loop.counter) in
+    let next : c.climb-next.result ≡ heights c.args.graph.now.edges.now (c.loop.counter + 1) =
+    c.climb-next.ensures ∙ ap (climbed c.args.graph.now.edges.now) c.loop.invariant.0 ∙ sym (heights_more c.args.graph.now.edges.now c.loop.counter) in
     let back : c.loop.counter + 1 - 1 ≡ c.loop.counter = omega arith in
-    (next, λ _ e. clash c.eq.result c.if-eq.false (same.1 (next ∙ e ∙ ap (heights c.args.graph.now.edges.items) back ∙ sym c.loop.invariant.0)))
+    (next, λ _ e. clash c.eq.result c.if-eq.false (same.1 (next ∙ e ∙ ap (heights c.args.graph.now.edges.now) back ∙ sym c.loop.invariant.0)))
 
 pub returns : goal.returns
 returns c e =
     let all : c.loop.counter ≡ 34 = omega arith in
     let but_one : 33 ≡ c.loop.counter - 1 = omega arith in
-    c.loop.invariant.1 (omega arith) (ap (heights c.args.graph.now.edges.items) all ∙ heights_more c.args.graph.now.edges.items 33 ∙ e ∙ ap (heights c.args.graph.now.edges.items) but_one)
+    c.loop.invariant.1 (omega arith) (ap (heights c.args.graph.now.edges.now) all ∙ heights_more c.args.graph.now.edges.now 33 ∙ e ∙ ap (heights c.args.graph.now.edges.now) but_one)

@@ -8,12 +8,12 @@ use Rattle.layout.proofs.layout.lay_out.Goals as goal
 
 pub returns-in_err-heights : goal.returns-in_err-heights
 returns-in_err-heights c =
-    rw c.from_residual.ensures (λ falls. c.in_err-heights.ensures (at_rest c.args.graph.now.channels c.args.graph.now.streams c.args.graph.now.edges.items c.args.graph.now.fits falls))
+    rw c.from_residual.ensures (λ falls. c.in_err-heights.ensures (at_rest c.args.graph.now.channels c.args.graph.now.streams c.args.graph.now.edges.now c.args.graph.now.fits falls))
 
 pub ring_lengths-lengths-requires : goal.ring_lengths-lengths-requires
 ring_lengths-lengths-requires c = subst (Low 1000000) (sym c.leads_of-leads.ensures)
-    (leads_low c.args.graph.now.channels c.args.graph.now.streams c.args.graph.now.edges.items c.args.graph.now.fits c.in_ok-heights.heights c.in_ok-heights.ensures)
+    (leads_low c.args.graph.now.channels c.args.graph.now.streams c.args.graph.now.edges.now c.args.graph.now.fits c.in_ok-heights.heights c.in_ok-heights.ensures)
 
 pub returns : goal.returns
-returns c = laid c.args.graph.now.channels c.args.graph.now.streams c.args.graph.now.edges.items c.args.graph.now.fits c.in_ok-heights.heights c.in_ok-heights.ensures c.evaluation_order-order.result c.evaluation_order-order.ensures
+returns c = laid c.args.graph.now.channels c.args.graph.now.streams c.args.graph.now.edges.now c.args.graph.now.fits c.in_ok-heights.heights c.in_ok-heights.ensures c.evaluation_order-order.result c.evaluation_order-order.ensures
     c.leads_of-leads.result c.ring_lengths-lengths.result c.leads_of-leads.ensures c.ring_lengths-lengths.ensures

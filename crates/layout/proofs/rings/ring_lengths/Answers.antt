@@ -8,4 +8,4 @@ use Rattle.layout.proofs.rings.ring_lengths.Goals as goal
 pub returns : goal.returns
 unfolding sizes
 returns c =
-    c.loop-edge.invariant ∙ ap (fold (topped (span c.args.leads.now)) (replicate 64 1)) (take_all c.loop-edge.edge-index c.deref-edge-items.result.now c.loop-edge-test.false ∙ c.deref-edge-items.ensures.value)
+    c.loop-edge.invariant ∙ ap (fold (topped (span c.args.leads.now)) (replicate 64 1)) (take_all c.loop-edge.edge-index c.args.graph.now.edges.now c.loop-edge-test.false)

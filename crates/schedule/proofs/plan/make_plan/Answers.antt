@@ -1,30 +1,37 @@
 use Rattle.std.proofs.Common.{List, map, refl, ap, ◌∙◌, inl, inr}
 use Rattle.std.proofs.lemmas.Result.{err_from_is_err_and}
-use Rattle.syntax.specs.declared.record.Kind.TheVariants.{Rule}
-use Rattle.syntax.specs.declared.record.Record.{Record}
-use Rattle.syntax.specs.Entries.{Entry, entry_of, count}
-use Rattle.schedule.proofs.Scheduling.{blames_of, planned_of, overfull}
+use Rattle.syntax.specs.Entries.{Entry, entry_of}
+use Rattle.schedule.proofs.Scheduling.{fits_of, blames_of, planned_of, overfull}
 use Rattle.schedule.proofs.plan.make_plan.Goals as goal
+
+pub invariant_of-graph : goal.invariant_of-graph
+invariant_of-graph c =
+    let counts = c.of-counts.ensures in record {
+      fits = fits_of (map entry_of c.args.ordered.now.records.now) c.args.ordered.now.orderly _ _ _ (ap (λ n. n.channels) counts) (ap (λ n. n.streams) counts) (c.deref.ensures.value ∙ c.in_ok-edges.ensures);
+    }
 
 pub returns-in_err-layout : goal.returns-in_err-layout
 returns-in_err-layout c =
     let p = err_from_is_err_and c.from_residual-in_err-layout.result c.from_residual-in_err-layout.ensures.1 in
+    let counts = c.of-counts.ensures in
     rw (p.1, p.2)
-    (inl (blames_of (map entry_of c.args.ordered.now.records.items) c.args.ordered.now.orderly c.in_ok-graph.graph c.in_ok-graph.ensures
-    c.args.sheet.now c.weigh_walks.new.sheet c.in_err-layout.field-0.0 c.in_err-layout.ensures))
+    (inl (blames_of (map entry_of c.args.ordered.now.records.now) c.args.ordered.now.orderly _ _ _ (ap (λ n. n.channels) counts) (ap (λ n. n.streams) counts)
+    (c.deref.ensures.value ∙ c.in_ok-edges.ensures) c.args.sheet.now c.weigh_walks.new.sheet c.in_err-layout.field-0.0 c.in_err-layout.ensures))
 
 pub returns-then-plan-gt-MOST_SLOTS : goal.returns-then-plan-gt-MOST_SLOTS
 returns-then-plan-gt-MOST_SLOTS c =
-    let rs : List Entry = map entry_of c.args.ordered.now.records.items in
-    let (kept, plan) = planned_of rs c.args.ordered.now.orderly c.in_ok-graph.graph c.in_ok-graph.ensures c.args.sheet.now c.weigh_walks.new.sheet
-    c.count.result (c.count.ensures ∙ ap (λ (l : List Record). count Rule (map entry_of l)) c.deref.ensures.value)
+    let rs : List Entry = map entry_of c.args.ordered.now.records.now in
+    let counts = c.of-counts.ensures in
+    let (kept, plan) = planned_of rs c.args.ordered.now.orderly _ _ _ (ap (λ n. n.channels) counts) (ap (λ n. n.streams) counts)
+    (c.deref.ensures.value ∙ c.in_ok-edges.ensures) c.args.sheet.now c.weigh_walks.new.sheet _ (ap (λ n. n.rules) counts)
     c.in_ok-layout.layout c.lay_plan-plan.result c.in_ok-layout.ensures c.lay_plan-plan.ensures in
     inr (_, refl, kept, overfull rs c.lay_plan-plan.result plan c.if-plan-gt-MOST_SLOTS.true)
 
 pub returns : goal.returns
 returns c =
-    let rs : List Entry = map entry_of c.args.ordered.now.records.items in
-    let (kept, plan) = planned_of rs c.args.ordered.now.orderly c.in_ok-graph.graph c.in_ok-graph.ensures c.args.sheet.now c.weigh_walks.new.sheet
-    c.count.result (c.count.ensures ∙ ap (λ (l : List Record). count Rule (map entry_of l)) c.deref.ensures.value)
+    let rs : List Entry = map entry_of c.args.ordered.now.records.now in
+    let counts = c.of-counts.ensures in
+    let (kept, plan) = planned_of rs c.args.ordered.now.orderly _ _ _ (ap (λ n. n.channels) counts) (ap (λ n. n.streams) counts)
+    (c.deref.ensures.value ∙ c.in_ok-edges.ensures) c.args.sheet.now c.weigh_walks.new.sheet _ (ap (λ n. n.rules) counts)
     c.in_ok-layout.layout c.lay_plan-plan.result c.in_ok-layout.ensures c.lay_plan-plan.ensures in
     (kept, plan, c.if-plan-gt-MOST_SLOTS.false)

@@ -12,11 +12,11 @@ loop-length-init c = record { some = omega arith; last = refl; missed = λ k l h
 
 pub step-row-requires : goal.step-row-requires
 step-row-requires c = subst (AllByRecursion (Low 8192)) (sym c.loop-length.invariant.last)
-    (layer_low c.args.graph.now.edges.items (graph_bounded c.args.graph.now) c.args.start c.requires.low (c.loop-length.length - 1) (omega (arith, c.requires.few)))
+    (layer_low c.args.graph.now.edges.now (graph_bounded c.args.graph.now) c.args.start c.requires.low (c.loop-length.length - 1) (omega (arith, c.requires.few)))
 
 pub returns-in-Some : goal.returns-in-Some
 returns-in-Some c =
-    let es = c.args.graph.now.edges.items in
+    let es = c.args.graph.now.edges.now in
     let k = c.loop-length.length in
     first_at es c.args.start c.args.target k c.loop-length.invariant.some c.loop-length.invariant.missed c.step-row.result
     (row_next es c.args.start k c.loop-length.row c.step-row.result c.loop-length.invariant.some c.loop-length.invariant.last c.step-row.ensures)
@@ -24,7 +24,7 @@ returns-in-Some c =
 
 pub returns-in_default : goal.returns-in_default
 returns-in_default c =
-    let es = c.args.graph.now.edges.items in
+    let es = c.args.graph.now.edges.now in
     let k = c.loop-length.length in
     λ j l h. missed_more es c.args.start c.args.target k c.loop-length.invariant.some c.loop-length.invariant.missed c.step-row.result
     (row_next es c.args.start k c.loop-length.row c.step-row.result c.loop-length.invariant.some c.loop-length.invariant.last c.step-row.ensures)
@@ -32,7 +32,7 @@ returns-in_default c =
 
 pub loop-length-preserved : goal.loop-length-preserved
 loop-length-preserved c =
-    let es = c.args.graph.now.edges.items in
+    let es = c.args.graph.now.edges.now in
     let k = c.loop-length.length in
     let is : c.step-row.result ≡ layer es c.args.start k =
     row_next es c.args.start k c.loop-length.row c.step-row.result c.loop-length.invariant.some c.loop-length.invariant.last c.step-row.ensures in

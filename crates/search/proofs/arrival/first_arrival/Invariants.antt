@@ -6,6 +6,6 @@ use Rattle.search.proofs.arrival.first_arrival.Given as goal
 abbrev pub invariant-loop-length : goal.invariant-loop-length
 invariant-loop-length l = record {
   some : 0 < l.length;
-  last : l.row ≡ layer l.graph.edges.items l.initial.row (l.length - 1);
-  missed : Missed l.graph.edges.items l.initial.row l.target (l.length - 1);
+  last : l.row ≡ layer l.graph.edges.now l.initial.row (l.length - 1);
+  missed : Missed l.graph.edges.now l.initial.row l.target (l.length - 1);
 }

@@ -11,23 +11,23 @@ use Rattle.search.proofs.closed.find_closed_walk.Goals as goal
 
 pub returns-in_err-found : goal.returns-in_err-found
 returns-in_err-found c =
-    rw c.from_residual.ensures (none_falls c.args.graph.now.channels c.args.graph.now.streams c.args.graph.now.edges.items c.args.graph.now.fits c.in_err-found.ensures, search rules)
+    rw c.from_residual.ensures (none_falls c.args.graph.now.channels c.args.graph.now.streams c.args.graph.now.edges.now c.args.graph.now.fits c.in_err-found.ensures, search rules)
 
 pub list_walk-requires : goal.list_walk-requires
 list_walk-requires c =
     let f : Arrival = c.in_ok-found.found in
-    let few : Fewest c.args.graph.now.edges.items c.args.graph.now.channels c.args.graph.now.streams f = c.in_ok-found.ensures in
+    let few : Fewest c.args.graph.now.edges.now c.args.graph.now.channels c.args.graph.now.streams f = c.in_ok-found.ensures in
     record {
       low = subst (AllByRecursion (Low 0)) (sym c.start_at.ensures) (low_alone f.node);
       few = omega (arith, few.first.within, c.args.graph.now.fits.few_streams);
       space = omega (arith, few.first.within, c.args.graph.now.fits.few_streams, c.requires);
       node = omega (arith, few.below, c.args.graph.now.fits.few_channels, c.args.graph.now.fits.few_streams);
-      reached = subst (λ (x : List (Option ℕ)). reaches (get_or (layer c.args.graph.now.edges.items x f.length) f.node None) 0 ≡ true) (sym c.start_at.ensures)
-          (first_reached c.args.graph.now.edges.items (alone f.node) (ring f.node) c.args.graph.now.streams f few.first);
+      reached = subst (λ (x : List (Option ℕ)). reaches (get_or (layer c.args.graph.now.edges.now x f.length) f.node None) 0 ≡ true) (sym c.start_at.ensures)
+          (first_reached c.args.graph.now.edges.now (alone f.node) (ring f.node) c.args.graph.now.streams f few.first);
     }
 
 pub returns : goal.returns
-returns c = fewest_told c.args.graph.now.channels c.args.graph.now.streams c.args.graph.now.edges.items c.args.graph.now.fits c.in_ok-found.found
+returns c = fewest_told c.args.graph.now.channels c.args.graph.now.streams c.args.graph.now.edges.now c.args.graph.now.fits c.in_ok-found.found
     c.args.sheet.now c.list_walk.new.sheet c.in_ok-found.ensures
-    (subst (λ (x : List (Option ℕ)). Listed c.args.graph.now.edges.items x c.in_ok-found.found c.args.sheet.now c.list_walk.new.sheet)
+    (subst (λ (x : List (Option ℕ)). Listed c.args.graph.now.edges.now x c.in_ok-found.found c.args.sheet.now c.list_walk.new.sheet)
     c.start_at.ensures c.list_walk.ensures)

@@ -12,7 +12,7 @@ use Rattle.search.proofs.listing.list_walk.Goals as goal
 pub find_into-requires : goal.find_into-requires
 find_into-requires c =
     subst (AllByRecursion (Low 8192)) (sym (c.layers-rows.ensures (c.loop-k.k - 1) (omega (arith, c.loop-k.invariant.long))))
-    (layer_low c.args.graph.now.edges.items (graph_bounded c.args.graph.now) c.args.start c.requires.low (c.loop-k.k - 1) (omega (arith, c.loop-k.invariant.long, c.requires.few)))
+    (layer_low c.args.graph.now.edges.now (graph_bounded c.args.graph.now) c.args.start c.requires.low (c.loop-k.k - 1) (omega (arith, c.loop-k.invariant.long, c.requires.few)))
 
 copied_some : (o : Option (Bor Edge)) (r : Edge) → option_copied o ≡ Some r → IsSome o
 copied_some o r e = search rules

@@ -7,4 +7,4 @@ pub returns : goal.returns
 unfolding stepped
 returns c =
     c.loop-edge.invariant ∙
-    ap (fold (extended c.args.from.now) nothing) (take_all c.loop-edge.edge-index c.deref-edge-items.result.now c.loop-edge-test.false ∙ c.deref-edge-items.ensures.value)
+    ap (fold (extended c.args.from.now) nothing) (take_all c.loop-edge.edge-index c.args.graph.now.edges.now c.loop-edge-test.false)

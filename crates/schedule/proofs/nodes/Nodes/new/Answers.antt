@@ -1,5 +1,4 @@
 use Rattle.std.proofs.Common.{◌≡◌, ℕ, List, map, ap, ◌∙◌, rules}
-use Rattle.syntax.specs.declared.record.Record.{Record}
 use Rattle.syntax.specs.Entries.{Entry, entry_of}
 use Rattle.schedule.specs.declared.nodes.Node.{Node}
 use Rattle.syntax.specs.declared.record.Counts.{Counts}
@@ -11,9 +10,9 @@ use Rattle.schedule.proofs.nodes.Nodes.new.Goals as goal
 pub returns : goal.returns
 unfolding id_at
 returns c =
-    let rs : List Entry = map entry_of c.args.ordered.now.records.items in
+    let rs : List Entry = map entry_of c.args.ordered.now.records.now in
     let n : Counts = c.of-counts.result in
-    let are : n ≡ counts_of rs = c.of-counts.ensures ∙ ap (λ (l : List Record). counts_of (map entry_of l)) c.deref.ensures.value in
+    let are : n ≡ counts_of rs = c.of-counts.ensures in
     record {
       counts = are;
       told = λ m l.
