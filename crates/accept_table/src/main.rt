@@ -19,6 +19,7 @@ the record that reads and the one that is read, and the drop.
 The status is 0 after either line, and 1 where the input cannot be read.";
 
 // Looks at the arguments: none for a check, or one that asks for the walk too or for help.
+// Each program has words and an error text of its own, so one match in two places is the plainest.
 fn run(rt: &HostRuntime) -> anyhow::Result<()> {
     match env::args(rt)?.nth(1) {
         None => tell_input(rt, tell),

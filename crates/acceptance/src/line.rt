@@ -58,7 +58,7 @@ fn add_walk(
 }
 
 // What the check of a first table answers of the bytes, and the sheet after it.
-fn ask(
+pub fn ask(
     alloc: Global,
     bytes: &[u8],
 ) -> Result<(Result<Counts, Rejection>, [SheetEntry; 33]), AllocError>

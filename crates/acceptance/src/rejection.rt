@@ -6,6 +6,7 @@ use faults::fault::{Fault, Layer};
 use syntax::stop::Stop;
 
 // Why the check does not accept a table: it is refused, or there is no memory for it.
+// Not one generic with `Stop`: a refusal has its layer here, and a host that matches on it finds one plain name.
 #[derive(Clone, Copy, Debug, PartialEq, Eq)]
 pub enum Rejection {
     Refused(Fault),

@@ -11,7 +11,7 @@ use programs::vectors::{tell_line, tell_lines};
 use std::alloc::{AllocError, Global};
 use std::process::ExitCode;
 
-// What is told of a line.
+// What is told of a line; a function of its own, since each program promises another text.
 fn tell(alloc: Global, text: &str) -> Result<String, AllocError>
     ensures { IfOk result (λ t. Told (table_of text.now) (string_bytes t)) }
 {

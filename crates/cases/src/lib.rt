@@ -4,9 +4,8 @@
 ghost use Rattle.std.specs.Prelude.{◌≡◌, IfOk};
 ghost use Rattle.cases.specs.Cases.{three_streams, one_stream, TwoStreams, ThreeAhead, FourAhead, OneAhead, NoneAhead, Says, Verdict, AsWorked};
 
-use acceptance::line::BLANK_SHEET;
+use acceptance::line::ask;
 use acceptance::rejection::Rejection;
-use acceptance::table::Table;
 use faults::cause::Cause;
 use schedule::plan::Counts;
 use std::alloc::{AllocError, Global};
@@ -56,9 +55,7 @@ fn verdict(answer: Result<Counts, Rejection>) -> Result<Result<usize, Cause>, Al
 fn judge(alloc: Global, bytes: &[u8]) -> Result<Result<usize, Cause>, AllocError>
     ensures { IfOk result (λ v. Verdict bytes.now v) }
 {
-    let mut table = Table::new(alloc)?;
-    let mut sheet = BLANK_SHEET;
-    let answer = table.check(alloc, bytes, &mut sheet);
+    let (answer, _sheet) = ask(alloc, bytes)?;
     verdict(answer)
 }
 

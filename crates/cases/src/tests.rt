@@ -1,5 +1,6 @@
 // What a check leaves of the table and the sheet, on examples.
 use crate::{TWO_STREAMS, one_stream, three_streams};
+use acceptance::line::{BLANK_SHEET, ask};
 use acceptance::rejection::Rejection;
 use acceptance::table::Table;
 use std::test::Fail;
@@ -58,6 +59,14 @@ fn lists_the_walk_to_blame(rt: HostRuntime) -> Result<(), Fail> {
         }
     );
     assert!(rt; sheet[3] == BLANK, "an entry past the walk");
+    Ok(())
+}
+
+#[test]
+fn asks_a_first_table(rt: HostRuntime) -> Result<(), Fail> {
+    let (answer, sheet) = ask(rt.alloc(), &TWO_STREAMS)?;
+    assert!(rt; answer.is_ok());
+    assert!(rt; sheet.as_slice() == BLANK_SHEET.as_slice());
     Ok(())
 }
 

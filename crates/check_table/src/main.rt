@@ -15,6 +15,7 @@ Reads the raw bytes of a table from standard input and prints one line:
 The status is 0 after either line, and 1 where the input cannot be read.";
 
 // Looks at the arguments: none for a check, one for help.
+// Each program has words and an error text of its own, so one match in two places is the plainest.
 fn run(rt: &HostRuntime) -> anyhow::Result<()> {
     match env::args(rt)?.nth(1) {
         None => tell_input(rt, answer),

@@ -12,6 +12,7 @@ use syntax::record::{Kind, Record, Rule, count};
 use syntax::tree::Expr;
 
 // Adds a reference to the record of a kind and number.
+// List and reader are two parameters: in a struct of both each clause would have to say that the reader stays.
 fn add(
     found: &mut Vec<Reference>,
     reader: Id,
@@ -29,7 +30,8 @@ fn add(
     Ok(())
 }
 
-// Adds what an expression reads; a branch that is never chosen counts too.
+// Adds what an expression reads; a branch that is never chosen counts too. The check of names goes the same way, but not by one
+// walk with a closure: it can't fail for want of memory, and a proof knows nothing of what a closure added.
 fn add_expression(found: &mut Vec<Reference>, reader: Id, e: &Expr) -> Result<(), AllocError>
     ensures { OnOk result (found.new.items ≡ found.old.items ++ map (refer reader) (uses (exp e.now))) }
 {

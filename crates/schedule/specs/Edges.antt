@@ -1,4 +1,4 @@
--- The references of a table as edges between counts_of nodes: the channels by number, then the streams, then the rules. Assumes nothing.
+-- The references of a table as edges between numbered nodes: the channels by number, then the streams, then the rules. Assumes nothing.
 use Rattle.std.specs.Prelude.{◌≡◌, ℕ, ◌+◌, ◌-◌, ◌<◌, ◌≤◌, cond, List, [], map, Some, Ok, nat_lt, slice_index_or}
 use Rattle.std.specs.Coded.{→_prop, le_prop}
 use Rattle.std.specs.List.{AllByRecursion, AllByRecursion-prop}

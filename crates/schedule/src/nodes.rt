@@ -21,7 +21,7 @@ pub(crate) struct Node {
 }
 
 // The nodes of a table: the counts by which they are numbered, and what an edge tells of each, looked up once.
-// An array: a table has no more nodes than this, and no memory is asked for.
+// An array by node: every node has its place from the start, and none is added.
 #[derive(Clone, Copy)]
 pub(crate) struct Nodes {
     pub(crate) counts: Counts,
@@ -83,6 +83,7 @@ fn describe(ordered: &OrderedRecords<'_>, id: Id) -> Node
             number,
             opening: openings_of(&ordered.records[number]) as u8,
         },
+        // The definition gives 0 of both to what names no record.
         None => Node::default(),
     }
 }

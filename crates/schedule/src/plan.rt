@@ -20,7 +20,7 @@ use walks::graph::{Graph, NODES};
 // How many slots the rings of a table take at most.
 const MOST_SLOTS: usize = 2048;
 
-// How many records of each kind a table has, and how many slots its rings take.
+// How many records of each kind a table has, and how many slots its rings take, which only a planned table has.
 #[derive(Clone, Copy, Debug, PartialEq, Eq)]
 pub struct Counts {
     pub records: record::Counts,
@@ -45,7 +45,7 @@ pub struct Ring {
 }
 
 // The plan of a table. Rings are numbered as records are: the channels first, then the streams.
-// Arrays, since a table whose walks and slots are in order must not want for memory here.
+// Arrays, since a plan is plain data that is copied whole; how many of the order and of the rings count stands in the counts.
 #[derive(Clone, Copy)]
 pub struct Plan {
     pub counts: Counts,
@@ -108,7 +108,7 @@ pub fn make_plan(
     ordered: &OrderedRecords<'_>,
     sheet: &mut [SheetEntry],
 ) -> Result<Plan, Stop>
-    // The sheet is the caller's memory, whose length the check tests once.
+    // The sheet is the caller's, of any length from 33 on, which an array of 33 would narrow.
     requires { 33 ≤ length sheet.old }
     ensures { Scheduled (map entry_of ordered.now.records.now) sheet.old sheet.new result }
 {

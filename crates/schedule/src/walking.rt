@@ -19,7 +19,7 @@ fn channel_leads(leads: &[u32; NODES], channels: usize) -> bool
 
 // The layout of a table's edges, or the walk against it, which is then told in the sheet's first entries.
 pub(crate) fn weigh_walks(graph: &Graph, sheet: &mut [SheetEntry]) -> Result<Layout, Cause>
-    // The sheet is the caller's memory, whose length the check tests once.
+    // The sheet is the caller's, of any length from 33 on, which an array of 33 would narrow.
     requires { 33 ≤ length sheet.old }
     ensures { Weighed graph.now.channels graph.now.streams graph.now.edges.now sheet.old sheet.new result }
 {

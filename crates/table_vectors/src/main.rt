@@ -11,7 +11,7 @@ use std::alloc::{AllocError, Global};
 use std::process::ExitCode;
 use tables::check::answer;
 
-// What is told of a line.
+// What is told of a line; a function of its own, since each program promises another text.
 fn tell(alloc: Global, text: &str) -> Result<String, AllocError>
     ensures { IfOk result (λ t. string_bytes t ≡ told (table_of text.now)) }
 {

@@ -23,7 +23,7 @@ Reads bytes (Ok records) = checked bytes ≡ Ok (entries_of records)
 Reads bytes (Err (Refused x)) = checked bytes ≡ Err x
 Reads bytes (Err Memory) = Begun bytes
 
--- and so of the counts of the records
+-- the same of the counts of the records
 abbrev pub Counted : Result Counts Stop → List ℕ → Type 0
 Counted (Ok c) bytes = (rs : List Entry) × (checked bytes ≡ Ok rs) × (c ≡ counts_of rs)
 Counted (Err (Refused x)) bytes = checked bytes ≡ Err x

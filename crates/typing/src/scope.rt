@@ -15,7 +15,7 @@ pub(crate) struct Scope {
     streams: Vec<Type>,
 }
 
-// The type at a number; Bool where there is none.
+// The type at a number; Bool where there is none, as the definition has it: typing asks nothing of an expression, and the check looks at names before.
 fn type_at(types: &[Type], number: u8) -> Type
     ensures { result ≡ slice_index_or types.now number type.Bool }
 {

@@ -12,6 +12,7 @@ fn big_endian(bytes: &[u8]) -> u64
     ensures value { result ≡ number_from_digits 256 bytes.now }
     ensures below { result < 2 ^ (8 * length bytes.now) }
 {
+    // A `for`, since the closure of a fold can't show that its sum fits.
     let mut sum: u64 = 0;
     for b in bytes {
         sum = sum * 256 + u64::from(*b);

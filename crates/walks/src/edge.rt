@@ -5,7 +5,7 @@ ghost use Rattle.walks.specs.Lines.{entry_line};
 use std::fmt;
 
 // A reference as it is told: the numbers among all records of the one that reads and the one that is read, and the drop.
-#[derive(Clone, Copy, Debug, Default, PartialEq, Eq)]
+#[derive(Clone, Copy, Debug, PartialEq, Eq)]
 pub struct SheetEntry {
     pub reader: usize,
     pub read: usize,

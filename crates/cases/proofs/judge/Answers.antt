@@ -1,15 +1,17 @@
-use Rattle.std.proofs.Common.{replicate, arith}
+use Rattle.std.proofs.Common.{arith}
 use Rattle.std.proofs.lemmas.Result.{IfOk-weaker}
 use Rattle.cases.proofs.judge.Goals as goal
 
 pub returns : goal.returns
-returns c = IfOk-weaker c.verdict.result _ _ (λ v e. record {
-  before = c.in_ok-table.table;
-  after = c.check-answer.new.self;
-  sheet = replicate 33 (record { reader = 0; read = 0; drop = 0 });
-  sheet_after = c.check-answer.new.sheet;
-  answer = c.check-answer.result;
-  space = omega arith;
-  answers = c.check-answer.ensures.answer;
-  is = e;
-}) c.verdict.ensures
+returns c =
+    let asked = c.in_ok-answer.ensures in
+    IfOk-weaker c.verdict.result _ _ (λ v e. record {
+      before = asked.before;
+      after = asked.after;
+      sheet = asked.sheet;
+      sheet_after = _;
+      answer = _;
+      space = omega (arith, asked.space);
+      answers = asked.answers;
+      is = e;
+    }) c.verdict.ensures
