@@ -100,9 +100,10 @@ module _ {es : List Edge} {rows : List (List (Option ℕ))} {count end whole : �
                 set_at (take (k - 1) old) (get_or old (k - 1) d) rest d (k - 1) (length-take-le (k - 1) old (omega (arith, o.long)));
           }
 
-  pub going_all : AllByRecursion (Low 0) s → get_or (get_or rows count []) end None ≡ Some whole → k ≡ 0 → Listed es s (record { node = end; length = count }) old new
+  pub going_all : (within : end < 64) (short : count ≤ 33) → AllByRecursion (Low 0) s → get_or (get_or rows count []) end None ≡ Some whole → k ≡ 0 →
+      Listed es s (record { node = end; length = count; within = within; short = short }) old new
   unfolding layer
-  going_all low shown e =
+  going_all within short low shown e =
       let p : Going es rows count end whole old new 0 b left = subst (λ (x : ℕ). Going es rows count end whole old new x b left) e o in
       let here : get_or s b None ≡ Some left = ap (λ (x : List (Option ℕ)). get_or x b None) (sym (layers 0 (omega arith))) ∙ p.here in
       let none : left ≡ 0 = omega (arith, low_at s b left 0 low here) in

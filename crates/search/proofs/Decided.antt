@@ -9,7 +9,7 @@ use Rattle.walks.specs.Walks.{Walk, weigh, Rising, Falling, Settled, TellsClosed
 use Rattle.walks.specs.Edges.{graph, told, Fits, Channel}
 use Rattle.walks.proofs.Rings.{Loop, loop, on_ring, simple_walk, simple_ring, fewest_apart}
 use Rattle.walks.proofs.Through.{fit_in, through, all_bounded}
-use Rattle.search.specs.declared.arrival.Arrival.{Arrival}
+use Rattle.search.specs.declared.row.Arrival.{Arrival}
 use Rattle.search.specs.Rows.{nothing, alone, everywhere, layer}
 use Rattle.search.specs.Arrivals.{outside, arrives, Missed, First, Open, Unclosed, Fewest}
 use Rattle.search.specs.Listings.{Listed}

@@ -1,5 +1,5 @@
 -- What the rows of walks of k edges say of walks. Assumes nothing.
-use Rattle.std.proofs.Common.{◌≡◌, ℕ, zero, suc, ◌+◌, ◌-◌, ◌*◌, ◌<◌, ◌≤◌, true, List, [], ◌∷◌, ◌++◌, length, get_or, set, replicate, pos, ◌+ℤ◌, ◌≤ℤ◌, Some, None, Option, sym, refl, ap, ◌∙◌, subst, inl, inr, arith}
+use Rattle.std.proofs.Common.{◌≡◌, ℕ, zero, suc, ◌+◌, ◌-◌, ◌*◌, ◌<◌, ◌≤◌, true, List, [], ◌∷◌, ◌++◌, length, get_or, set, pos, ◌+ℤ◌, ◌≤ℤ◌, Some, None, Option, sym, refl, ap, ◌∙◌, subst, inl, inr, arith}
 use native.Mathlib.Decide.{ℕ_discrete}
 use Rattle.std.specs.List.{AllByRecursion}
 use Rattle.std.proofs.ByRecursion.{All-set, All-weaker}
@@ -9,7 +9,7 @@ use Rattle.walks.specs.declared.edge.Edge.{Edge}
 use Rattle.walks.specs.Walks.{Walk, weigh}
 use Rattle.walks.specs.Edges.{graph, Bounded}
 use Rattle.walks.proofs.Cut.{all_in, Last, last}
-use Rattle.search.specs.Rows.{lift, Low, reaches, nothing, alone, everywhere, stepped, layer}
+use Rattle.search.specs.Rows.{lift, Low, reaches, nothing, alone, stepped, layer}
 use Rattle.search.specs.Arrivals.{arrives}
 use Rattle.search.specs.Listings.{Layers}
 use Rattle.search.proofs.Rows.{none_some, set_some, reaches_less}
@@ -18,13 +18,6 @@ use Rattle.search.proofs.Steps.{none_in, low_nothing, stepped_serves, stepped_lo
 -- ---- the rows with no edge
 pub low_alone : (a : ℕ) → AllByRecursion (Low 0) (alone a)
 low_alone a = All-set (Low 0) nothing a (Some 0) (omega arith) (low_nothing 64 0)
-
-pub low_everywhere : AllByRecursion (Low 0) everywhere
-low_everywhere = go 64
-  where
-    go : (n : ℕ) → AllByRecursion (Low 0) (replicate n (Some 0))
-    go zero = tt
-    go (suc n) = (omega arith, go n)
 
 pub alone_begins : (a b y : ℕ) → get_or (alone a) b None ≡ Some y → a ≡ b
 alone_begins a b y e = elim (set_some nothing a b y (Some 0) e) [

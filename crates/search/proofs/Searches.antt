@@ -5,7 +5,7 @@ use Rattle.std.specs.List.{range_with_len, AllWithin, HoldsAt}
 use Rattle.std.proofs.lemmas.List.FromFn.{get_or-range_with_len, length-range_with_len}
 use Rattle.walks.specs.declared.edge.Edge.{Edge}
 use Rattle.search.specs.declared.arrival.Target.{Target}
-use Rattle.search.specs.declared.arrival.Arrival.{Arrival}
+use Rattle.search.specs.declared.row.Arrival.{Arrival}
 use Rattle.search.specs.Rows.{layer, alone, reaches}
 use Rattle.search.specs.Arrivals.{ring, Unreached, Reached, Missed, First, Open, Unclosed, Fewest}
 use Rattle.search.proofs.Rows.{reaches_less}
@@ -39,8 +39,9 @@ module _ (es : List Edge) (s : List (Option ℕ)) (t : Target) where
           (subst (λ (x : List (Option ℕ)). Unreached x t.first t.end (64 * k + t.over)) is here)
     ]
 
-    pub first_at : (limit b : ℕ) → k ≤ limit → Reached row t.first t.end (64 * k + t.over) b → First es s t limit (record { node = b; length = k })
-    first_at limit b h here = record {
+    pub first_at : (limit b : ℕ) (within : b < 64) (short : k ≤ 33) → k ≤ limit → Reached row t.first t.end (64 * k + t.over) b →
+        First es s t limit (record { node = b; length = k; within = within; short = short })
+    first_at limit b within short h here = record {
       some = some;
       within = h;
       at = subst (λ (x : List (Option ℕ)). Reached x t.first t.end (64 * k + t.over) b) is here;
@@ -53,9 +54,9 @@ first_reached es s t limit f first = reaches_less (get_or (layer es s f.length) 
 
 -- ---- starts
 -- what holds at the row, the target and the limit of a start
-pub at_start : (P : List (Option ℕ) → Target → ℕ → Type 0) (s : List (Option ℕ)) (t : Target) (m a k : ℕ) → s ≡ alone a → t ≡ ring a → m ≡ k → P s t m →
-    P (alone a) (ring a) k
-at_start P s t m a k p q r h = subst (P (alone a) (ring a)) r (subst (λ (x : Target). P (alone a) x m) q (subst (λ (x : List (Option ℕ)). P x t m) p h))
+pub at_start : (P : List (Option ℕ) → Target → ℕ → Type 0) (s begins : List (Option ℕ)) (t comes : Target) (m k : ℕ) → s ≡ begins → t ≡ comes → m ≡ k → P s t m →
+    P begins comes k
+at_start P s begins t comes m k p q r h = subst (P begins comes) r (subst (λ (x : Target). P begins x m) q (subst (λ (x : List (Option ℕ)). P x t m) p h))
 
 module _ (es : List Edge) (lo n : ℕ) where
   -- no closed walk of 1 to limit edges was met from the starts below a

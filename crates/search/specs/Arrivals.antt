@@ -2,7 +2,7 @@
 use Rattle.std.specs.Prelude.{◌≡◌, ℕ, ◌+◌, ◌-◌, ◌*◌, ◌<◌, ◌≤◌, min, Bool, true, false, List, None, Option, slice_index_or}
 use Rattle.walks.specs.declared.edge.Edge.{Edge}
 use Rattle.search.specs.declared.arrival.Target.{Target}
-use Rattle.search.specs.declared.arrival.Arrival.{Arrival}
+use Rattle.search.specs.declared.row.Arrival.{Arrival}
 use Rattle.search.specs.Rows.{layer, alone, reaches}
 
 -- the target of a closed walk from a that weighs 0 or more

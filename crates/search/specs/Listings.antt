@@ -4,7 +4,7 @@ use Rattle.walks.specs.declared.edge.Edge.{Edge}
 use Rattle.walks.specs.declared.edge.SheetEntry.{SheetEntry}
 use Rattle.walks.specs.Walks.{Walk, weigh}
 use Rattle.walks.specs.Edges.{graph, told}
-use Rattle.search.specs.declared.arrival.Arrival.{Arrival}
+use Rattle.search.specs.declared.row.Arrival.{Arrival}
 use Rattle.search.specs.Rows.{layer}
 
 -- the rows of walks of 0 to count edges that begin as s says

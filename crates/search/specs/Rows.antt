@@ -1,5 +1,7 @@
 -- Rows: for each node the greatest lifted weight of a walk of so many edges that ends there, if there is one. Assumes nothing.
 use Rattle.std.specs.Prelude.{ℕ, zero, suc, ◌+◌, ◌-◌, ◌≤◌, Bool, false, cond, ◌&&◌, List, replicate, Some, None, fold, Option, ◌==◌, nat_le, slice_index_or, slice_set}
+use Rattle.std.specs.Coded.{Unit-prop, le_prop}
+use Rattle.std.specs.List.{AllByRecursion, AllByRecursion-prop}
 use Rattle.walks.specs.declared.edge.Edge.{Edge}
 
 -- what an edge weighs, and 64
@@ -10,6 +12,14 @@ lift e = 64 + e.entry.drop - e.opening
 abbrev pub Low : ℕ → Option ℕ → Type 0
 Low b None = Unit {0}
 Low b (Some x) = x ≤ b
+
+-- a row is low in one way at most
+Low-prop : (b : ℕ) (o : Option ℕ) → IsProp (Low b o)
+Low-prop b None = Unit-prop
+Low-prop b (Some x) = le_prop
+
+pub Starts-prop : (row : List (Option ℕ)) → IsProp (AllByRecursion (Low 0) row)
+Starts-prop row = AllByRecursion-prop (Low 0) (Low-prop 0) row
 
 -- what stands at a node comes up to z
 abbrev pub reaches : Option ℕ → ℕ → Bool

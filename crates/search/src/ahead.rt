@@ -5,8 +5,9 @@ ghost use Rattle.walks.specs.Edges.{graph as graph_of, told, Channel};
 
 use crate::arrival::{Target, first_arrival};
 use crate::listing::list_walk;
+use crate::row::Start;
 use walks::edge::SheetEntry;
-use walks::graph::{Graph, NODES};
+use walks::graph::Graph;
 
 // Some exactly where a walk to a channel weighs more than 0: then such a walk of so many references, which comes to no node twice, stands in the sheet's first entries.
 pub fn find_channel_walk(graph: &Graph, sheet: &mut [SheetEntry]) -> Option<usize>
@@ -15,7 +16,7 @@ pub fn find_channel_walk(graph: &Graph, sheet: &mut [SheetEntry]) -> Option<usiz
     requires space { 33 ≤ length sheet.old }
     ensures { MatchOption result (Settled (graph_of graph.now.edges.now) (Channel graph.now.channels) × (sheet.new ≡ sheet.old)) (λ k. TellsAhead (graph_of graph.now.edges.now) (Channel graph.now.channels) told sheet.old sheet.new k) }
 {
-    let start = [Some(0); NODES];
+    let start = Start::everywhere();
     let target = Target::channels(graph.channels);
     let found = first_arrival(graph, start, target, graph.streams + 1)?;
     list_walk(graph, start, found, sheet);

@@ -1,14 +1,14 @@
 // The walk of the fewest edges that arrives at a target, by the rows.
 ghost use Rattle.std.specs.Prelude.{◌≡◌, ◌+◌, ◌≤◌, MatchOption};
-ghost use Rattle.std.specs.List.{AllByRecursion};
-ghost use Rattle.search.specs.Rows.{Low, reaches};
+ghost use Rattle.search.specs.Rows.{reaches};
 ghost use Rattle.search.specs.Arrivals.{ring, outside, Unreached, Reached, Missed, First};
 
-use crate::row::{Row, step};
+use crate::row::{Arrival, Row, Start, step};
 use walks::graph::Graph;
 
 // What a walk is to come to: a node from `first` on below `end`, with a weight of `over` or more.
 // Two numbers, since a range is not copied, and each length needs it anew.
+// Their bounds are required, since `ring` and `outside` in specs make a target of any number.
 #[derive(Clone, Copy)]
 pub(crate) struct Target {
     first: usize,
@@ -41,13 +41,6 @@ impl Target {
     }
 }
 
-// Where a walk of so many edges ends.
-#[derive(Clone, Copy)]
-pub(crate) struct Arrival {
-    pub(crate) node: usize,
-    pub(crate) length: usize,
-}
-
 // Whether a weight comes up to `least`.
 fn reaches(weight: Option<u32>, least: usize) -> bool
     ensures { result ≡ reaches weight least }
@@ -66,18 +59,16 @@ fn find_node(row: &Row, first: usize, end: usize, least: usize) -> Option<usize>
 // The first arrival at the target by a walk of 1 to `limit` edges that begins as `start` says.
 pub(crate) fn first_arrival(
     graph: &Graph,
-    start: Row,
+    start: Start,
     target: Target,
     limit: usize,
 ) -> Option<Arrival>
-    // Of the row, since the bounds of rows differ from call to call.
-    requires low { AllByRecursion (Low 0) start }
     requires few { limit ≤ 33 }
     requires nodes { target.end ≤ 64 }
     requires light { target.over ≤ 1 }
-    ensures { MatchOption result (Missed graph.now.edges.now start target limit) (First graph.now.edges.now start target limit) }
+    ensures { MatchOption result (Missed graph.now.edges.now start.row target limit) (First graph.now.edges.now start.row target limit) }
 {
-    let mut row = start;
+    let mut row = start.row;
     // The length is no index: what a walk must weigh depends on it.
     for length in 1..=limit {
         row = step(graph, &row);

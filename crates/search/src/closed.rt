@@ -4,9 +4,9 @@ ghost use Rattle.walks.specs.Walks.{Falling, TellsClosed};
 ghost use Rattle.walks.specs.Edges.{graph as graph_of, told};
 ghost use Rattle.search.specs.Arrivals.{Unclosed, Fewest};
 
-use crate::arrival::{Arrival, Target, first_arrival};
+use crate::arrival::{Target, first_arrival};
 use crate::listing::list_walk;
-use crate::row::start_at;
+use crate::row::{Arrival, Start};
 use walks::edge::SheetEntry;
 use walks::graph::Graph;
 
@@ -21,7 +21,7 @@ fn least_closed(graph: &Graph) -> Option<Arrival>
     for node in graph.channels..end {
         // What passes through an earlier stream was met there, so only those left count.
         let most = limit.min(end - node);
-        if let Some(arrival) = first_arrival(graph, start_at(node), Target::node(node), most) {
+        if let Some(arrival) = first_arrival(graph, Start::at(node), Target::node(node), most) {
             best = Some(arrival);
             limit = arrival.length - 1;
         }
@@ -36,6 +36,6 @@ pub fn find_closed_walk(graph: &Graph, sheet: &mut [SheetEntry]) -> Option<usize
     ensures { MatchOption result (Falling (graph_of graph.now.edges.now) × (sheet.new ≡ sheet.old)) (λ k. TellsClosed (graph_of graph.now.edges.now) told sheet.old sheet.new k) }
 {
     let found = least_closed(graph)?;
-    list_walk(graph, start_at(found.node), found, sheet);
+    list_walk(graph, Start::at(found.node), found, sheet);
     Some(found.length)
 }

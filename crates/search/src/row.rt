@@ -1,8 +1,8 @@
 // Rows: for each node the greatest lifted weight of a walk of so many edges that ends there.
-ghost use Rattle.std.specs.Prelude.{◌≡◌, ◌<◌};
+ghost use Rattle.std.specs.Prelude.{◌≡◌, ◌<◌, ◌≤◌};
 ghost use Rattle.std.specs.List.{AllByRecursion};
 ghost use Rattle.walks.specs.Edges.{Bounded};
-ghost use Rattle.search.specs.Rows.{lift, Low, extended, stepped, alone};
+ghost use Rattle.search.specs.Rows.{lift, Low, Starts-prop, extended, stepped, alone, everywhere};
 
 use walks::edge::Edge;
 use walks::graph::{Graph, NODES};
@@ -14,16 +14,17 @@ pub(crate) type Row = [Option<u32>; NODES];
 
 // What an edge weighs, and 64, so that it is never less than 0.
 pub(crate) fn lift(edge: &Edge) -> u32
-    // Required of each edge, since the definitions speak of an edge as a plain record.
+    // Definitions make an edge of any reference, so the type of an edge can't carry its bound.
     requires { Bounded edge.now }
     ensures { result ≡ lift edge.now }
 {
-    64 + edge.entry.drop as u32 - edge.opening as u32
+    64 + u32::from(edge.entry.drop) - u32::from(edge.opening)
 }
 
 // One edge's part in a step; most often the place is no lower already, and nothing is written.
 fn extend(from: &Row, to: &mut Row, edge: &Edge)
-    // Of each edge, since the definitions speak of an edge as a plain record; of rows, whose bounds differ from call to call.
+    // Definitions make an edge of any reference, so the type of an edge can't carry its bound.
+    // Nor does the type of rows, whose bounds differ from call to call.
     requires bounded { Bounded edge.now }
     requires low { AllByRecursion (Low 8192) from.now }
     ensures { to.new ≡ extended from.now to.old edge.now }
@@ -52,12 +53,39 @@ pub(crate) fn step(graph: &Graph, from: &Row) -> Row
     to
 }
 
-// The row of the walk with no edge at a node.
-pub(crate) fn start_at(node: usize) -> Row
-    requires { node < 64 }
-    ensures { result ≡ alone node }
-{
-    let mut row = [None; NODES];
-    row[node] = Some(0);
-    row
+// The row of walks with no edge: 0 at each node where a search begins.
+#[derive(Clone, Copy)]
+pub(crate) struct Start {
+    pub(crate) row: Row,
+    pub(crate) ghost low: { AllByRecursion (Low 0) row } by { Starts-prop row },
+}
+
+impl Start {
+    // A search that begins at every node.
+    pub(crate) fn everywhere() -> Start
+        ensures { result.row ≡ everywhere }
+    {
+        Start {
+            row: [Some(0); NODES],
+        }
+    }
+
+    // A search that begins at one node.
+    pub(crate) fn at(node: usize) -> Start
+        requires { node < 64 }
+        ensures { result.row ≡ alone node }
+    {
+        let mut row = [None; NODES];
+        row[node] = Some(0);
+        Start { row }
+    }
+}
+
+// Where a walk of so many edges ends: a node that stands in the row of its length.
+#[derive(Clone, Copy)]
+pub(crate) struct Arrival {
+    pub(crate) node: usize,
+    pub(crate) length: usize,
+    pub(crate) ghost within: { node < 64 },
+    pub(crate) ghost short: { length ≤ 33 },
 }

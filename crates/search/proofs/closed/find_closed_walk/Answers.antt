@@ -1,10 +1,8 @@
 use Rattle.std.proofs.Common.{◌≡◌, ℕ, true, List, get_or, None, Option, sym, subst, arith, rules}
-use Rattle.std.specs.List.{AllByRecursion}
-use Rattle.search.specs.declared.arrival.Arrival.{Arrival}
-use Rattle.search.specs.Rows.{Low, reaches, alone, layer}
+use Rattle.search.specs.declared.row.Arrival.{Arrival}
+use Rattle.search.specs.Rows.{reaches, alone, layer}
 use Rattle.search.specs.Arrivals.{ring, Fewest}
 use Rattle.search.specs.Listings.{Listed}
-use Rattle.search.proofs.Layers.{low_alone}
 use Rattle.search.proofs.Searches.{first_reached}
 use Rattle.search.proofs.Decided.{none_falls, fewest_told}
 use Rattle.search.proofs.closed.find_closed_walk.Goals as goal
@@ -18,11 +16,8 @@ list_walk-requires c =
     let f : Arrival = c.in_ok-found.found in
     let few : Fewest c.args.graph.now.edges.now c.args.graph.now.channels c.args.graph.now.streams f = c.in_ok-found.ensures in
     record {
-      low = subst (AllByRecursion (Low 0)) (sym c.start_at.ensures) (low_alone f.node);
-      few = omega (arith, few.first.within, c.args.graph.now.fits.few_streams);
       space = omega (arith, few.first.within, c.args.graph.now.fits.few_streams, c.requires);
-      node = omega (arith, few.below, c.args.graph.now.fits.few_channels, c.args.graph.now.fits.few_streams);
-      reached = subst (λ (x : List (Option ℕ)). reaches (get_or (layer c.args.graph.now.edges.now x f.length) f.node None) 0 ≡ true) (sym c.start_at.ensures)
+      reached = subst (λ (x : List (Option ℕ)). reaches (get_or (layer c.args.graph.now.edges.now x f.length) f.node None) 0 ≡ true) (sym c.at.ensures)
           (first_reached c.args.graph.now.edges.now (alone f.node) (ring f.node) c.args.graph.now.streams f few.first);
     }
 
@@ -30,4 +25,4 @@ pub returns : goal.returns
 returns c = fewest_told c.args.graph.now.channels c.args.graph.now.streams c.args.graph.now.edges.now c.args.graph.now.fits c.in_ok-found.found
     c.args.sheet.now c.list_walk.new.sheet c.in_ok-found.ensures
     (subst (λ (x : List (Option ℕ)). Listed c.args.graph.now.edges.now x c.in_ok-found.found c.args.sheet.now c.list_walk.new.sheet)
-    c.start_at.ensures c.list_walk.ensures)
+    c.at.ensures c.list_walk.ensures)
