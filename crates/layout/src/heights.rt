@@ -8,7 +8,8 @@ use walks::graph::{Graph, NODES};
 
 // One edge's part in a climb: what it reads lies at least its steep weight above its reader.
 fn raise(from: &[u32; NODES], to: &mut [u32; NODES], edge: &Edge)
-    // Of each edge, since the definitions speak of an edge as a plain record; of heights, whose bounds differ from call to call.
+    // Definitions make an edge of any reference, so the type of an edge can't carry its bound.
+    // Nor does the type of heights, since a climb raises theirs.
     requires bounded { Bounded edge.now }
     requires low { (Low 1000000 from.now) × (Low 1000000 to.old) }
     ensures { to.new ≡ topped (height_over from.now) to.old edge.now }
@@ -23,7 +24,7 @@ fn raise(from: &[u32; NODES], to: &mut [u32; NODES], edge: &Edge)
 
 // The heights after one more climb along every edge.
 fn climb(graph: &Graph, from: &[u32; NODES]) -> [u32; NODES]
-    // A bound of the numbers of an array differs from call to call, so no type carries it.
+    // A climb raises the bound, so its result would not have it.
     requires { Low 900000 from.now }
     ensures { result ≡ climbed graph.now.edges.now from.now }
 {

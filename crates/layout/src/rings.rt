@@ -23,7 +23,7 @@ pub(crate) fn leads_of(heights: &[u32; NODES]) -> [u32; NODES]
 
 // One edge's part in the lengths of rings: what it reads is kept until it has been read.
 fn widen(lengths: &mut [u32; NODES], edge: &Edge, leads: &[u32; NODES])
-    // Of each edge, since the definitions speak of an edge as a plain record; of heights, whose bounds differ from call to call.
+    // Definitions make an edge of any reference, so the type of an edge can't carry its bound.
     requires bounded { Bounded edge.now }
     requires low { Low 1000000 leads.now }
     ensures { lengths.new ≡ topped (span leads.now) lengths.old edge.now }
@@ -35,7 +35,7 @@ fn widen(lengths: &mut [u32; NODES], edge: &Edge, leads: &[u32; NODES])
 
 // How many values each node's ring keeps.
 pub(crate) fn ring_lengths(graph: &Graph, leads: &[u32; NODES]) -> [u32; NODES]
-    // A bound of the numbers of an array differs from call to call, so no type carries it.
+    // One caller makes the leads and passes them on, so a type for their bound would be no plainer.
     requires { Low 1000000 leads.now }
     ensures { result ≡ sizes graph.now.edges.now leads.now }
 {
