@@ -1,5 +1,7 @@
 // Arithmetic and comparison, on the operands' numbers. Integers of 128 bits hold those of every type, so one operation
 // serves all types, also two that differ, and no operator asks anything of its operands.
+#![tactic(auto, using(std::proofs::lemmas::Int::wraps, crate::proofs::Wide::wrap_wrapped))]
+
 ghost use Rattle.std.specs.Prelude.{◌≡◌, ◌+ℤ◌, ◌-ℤ◌, ◌*ℤ◌, neg_ℤ, int_div, int_le, int_lt, int_rem};
 ghost use Rattle.values.specs.Values.{type_of, num, wrap};
 ghost use Rattle.operators.specs.Operators.{eq_z};
