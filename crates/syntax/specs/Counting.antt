@@ -4,6 +4,7 @@ use Rattle.syntax.specs.declared.record.Counts.{Counts}
 use Rattle.syntax.specs.declared.record.Kind.TheVariants.{Channel, Stream, Rule}
 use Rattle.syntax.specs.Entries.{Entry, count}
 
+-- how many of each kind there are
 abbrev pub counts_of : List Entry → Counts
 counts_of rs = record { channels = count Channel rs; streams = count Stream rs; rules = count Rule rs }
 

@@ -1,7 +1,5 @@
 // What follows a record's kind.
-ghost use Rattle.std.specs.Prelude.{◌≡◌, ◌≤◌, map, length, IfOk, vec_items};
-ghost use Rattle.syntax.specs.Heads.{value_from};
-ghost use Rattle.syntax.specs.Parsing.{parse};
+ghost use Rattle.std.specs.Prelude.{◌≡◌, map, length, IfOk};
 ghost use Rattle.syntax.specs.Readers.{Finds, Reads};
 ghost use Rattle.syntax.specs.Trees.{exp};
 ghost use Rattle.syntax.specs.Entries.{entry_of};
@@ -12,14 +10,9 @@ use crate::part::Part;
 use crate::reader::Reader;
 use crate::record::{Kind, Record, Rule, Stream};
 use crate::stop::Stop;
-use crate::tree::Expr;
+use crate::tree::DEPTH;
 use faults::cause::Cause;
 use std::alloc::Global;
-use values::types::Type;
-use values::value::Value;
-
-// How deep an expression is at most.
-const DEPTH: u8 = 12;
 
 impl<'a> Reader<'a> {
     // So many parts, one after another.

@@ -1,5 +1,4 @@
 // An expression from bytes.
-ghost use Rattle.std.specs.Prelude.{◌≤◌, length};
 ghost use Rattle.syntax.specs.Parsing.{parse};
 ghost use Rattle.syntax.specs.Trees.{exp};
 ghost use Rattle.syntax.specs.Readers.{Reads};
@@ -10,7 +9,17 @@ use crate::tree::{Expr, Node};
 use std::alloc::Global;
 
 impl<'a> Reader<'a> {
+    // The operand that comes next, at most `depth` deep.
+    #[cycle(read_expression)]
+    fn read_operand(&mut self, alloc: Global, depth: u8) -> Result<Box<Expr>, Stop>
+        ensures { Reads (λ b. exp b.value) self.old self.new result (parse depth self.old.bytes.now self.old.at) }
+    {
+        Ok(Box::new(alloc, self.read_expression(alloc, depth)?)?)
+    }
+
     // The expression that comes next, at most `depth` deep.
+    #[cycle(read_expression)]
+    #[tactic(auto, using(std::proofs::lemmas::Bool::Decides::nat_tests, crate::proofs::Steps::parsed, crate::proofs::Steps::stops))]
     pub(crate) fn read_expression(&mut self, alloc: Global, depth: u8) -> Result<Expr, Stop>
         ensures { Reads exp self.old self.new result (parse depth self.old.bytes.now self.old.at) }
     {
@@ -24,16 +33,16 @@ impl<'a> Reader<'a> {
                 drop,
             }),
             Node::Unary(op) => {
-                let operand = Box::new(alloc, self.read_expression(alloc, depth - 1)?)?;
+                let operand = self.read_operand(alloc, depth - 1)?;
                 Ok(Expr::Unary { place, op, operand })
             }
             Node::Cast(to) => {
-                let operand = Box::new(alloc, self.read_expression(alloc, depth - 1)?)?;
+                let operand = self.read_operand(alloc, depth - 1)?;
                 Ok(Expr::Cast { place, to, operand })
             }
             Node::Binary(op) => {
-                let left = Box::new(alloc, self.read_expression(alloc, depth - 1)?)?;
-                let right = Box::new(alloc, self.read_expression(alloc, depth - 1)?)?;
+                let left = self.read_operand(alloc, depth - 1)?;
+                let right = self.read_operand(alloc, depth - 1)?;
                 Ok(Expr::Binary {
                     place,
                     op,
@@ -42,9 +51,9 @@ impl<'a> Reader<'a> {
                 })
             }
             Node::Choose => {
-                let test = Box::new(alloc, self.read_expression(alloc, depth - 1)?)?;
-                let yes = Box::new(alloc, self.read_expression(alloc, depth - 1)?)?;
-                let no = Box::new(alloc, self.read_expression(alloc, depth - 1)?)?;
+                let test = self.read_operand(alloc, depth - 1)?;
+                let yes = self.read_operand(alloc, depth - 1)?;
+                let no = self.read_operand(alloc, depth - 1)?;
                 Ok(Expr::Choose {
                     place,
                     test,

@@ -1,5 +1,5 @@
 // The parts of which a record has several, one after another.
-ghost use Rattle.std.specs.Prelude.{◌≡◌, ℕ, List, ◌≤◌, length};
+ghost use Rattle.std.specs.Prelude.{ℕ, List};
 ghost use Rattle.syntax.specs.Answers.{Found};
 ghost use Rattle.syntax.specs.Heads.{value_from};
 ghost use Rattle.syntax.specs.Parsing.{parse};

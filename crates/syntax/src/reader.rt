@@ -1,9 +1,7 @@
 // Reading the parts of a record from its bytes.
-ghost use Rattle.std.specs.Prelude.{◌≡◌, ◌+◌, ◌≤◌, length};
+ghost use Rattle.std.specs.Prelude.{◌≤◌, length};
 
-use faults::cause::Cause;
-
-// Bytes, and how far they were read. They end where the record ends, so that none beyond are read.
+// Bytes to the end of the table or of one record, and how far they were read.
 #[derive(Drop)]
 pub(crate) struct Reader<'a> {
     pub(crate) bytes: &'a [u8],

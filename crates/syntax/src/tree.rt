@@ -3,6 +3,9 @@ use operators::operator::{Binary, Unary};
 use values::types::Type;
 use values::value::Value;
 
+// How deep an expression is at most.
+pub const DEPTH: u8 = 12;
+
 // An expression; each node has the place of its first byte in the table.
 #[derive(Drop)]
 pub enum Expr {
