@@ -32,35 +32,28 @@ impl<'a> Reader<'a> {
                 number,
                 drop,
             }),
-            Node::Unary(op) => {
-                let operand = self.read_operand(alloc, depth - 1)?;
-                Ok(Expr::Unary { place, op, operand })
-            }
-            Node::Cast(to) => {
-                let operand = self.read_operand(alloc, depth - 1)?;
-                Ok(Expr::Cast { place, to, operand })
-            }
-            Node::Binary(op) => {
-                let left = self.read_operand(alloc, depth - 1)?;
-                let right = self.read_operand(alloc, depth - 1)?;
-                Ok(Expr::Binary {
-                    place,
-                    op,
-                    left,
-                    right,
-                })
-            }
-            Node::Choose => {
-                let test = self.read_operand(alloc, depth - 1)?;
-                let yes = self.read_operand(alloc, depth - 1)?;
-                let no = self.read_operand(alloc, depth - 1)?;
-                Ok(Expr::Choose {
-                    place,
-                    test,
-                    yes,
-                    no,
-                })
-            }
+            Node::Unary(op) => Ok(Expr::Unary {
+                place,
+                op,
+                operand: self.read_operand(alloc, depth - 1)?,
+            }),
+            Node::Cast(to) => Ok(Expr::Cast {
+                place,
+                to,
+                operand: self.read_operand(alloc, depth - 1)?,
+            }),
+            Node::Binary(op) => Ok(Expr::Binary {
+                place,
+                op,
+                left: self.read_operand(alloc, depth - 1)?,
+                right: self.read_operand(alloc, depth - 1)?,
+            }),
+            Node::Choose => Ok(Expr::Choose {
+                place,
+                test: self.read_operand(alloc, depth - 1)?,
+                yes: self.read_operand(alloc, depth - 1)?,
+                no: self.read_operand(alloc, depth - 1)?,
+            }),
         }
     }
 }
