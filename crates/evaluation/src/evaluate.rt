@@ -6,11 +6,8 @@ ghost use Rattle.evaluation.specs.Kept.{HasMeaning};
 
 use crate::source::Source;
 use operators::operator::choose;
-use syntax::tree::Expr;
+use syntax::tree::{DEPTH, Expr};
 use values::value::Value;
-
-// How deep an expression may be.
-const DEPTH: u8 = 12;
 
 // The value of an expression that is no deeper than the depth left, which bounds the recursion. A deeper one has no promised value, and since evaluating cannot fail, it gets false.
 #[tactic(auto, using(crate::proofs::Levels::some_level))]

@@ -10,11 +10,8 @@ use faults::cause::Cause;
 use std::alloc::Global;
 use syntax::record::Record;
 use syntax::stop::Stop;
-use syntax::tree::Expr;
+use syntax::tree::{DEPTH, Expr};
 use values::types::Type;
-
-// How deep an expression is at most.
-const DEPTH: u8 = 12;
 
 // Whether a type is the one that is wanted, if any is.
 fn fits(want: Option<Type>, ty: Type) -> bool
