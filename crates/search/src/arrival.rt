@@ -8,7 +8,7 @@ use walks::graph::Graph;
 
 // What a walk is to come to: a node from `first` on below `end`, with a weight of `over` or more.
 // Two numbers, since a range is not copied, and each length needs it anew.
-// Their bounds are required, since `ring` and `outside` in specs make a target of any number.
+// Functions require the bounds of `end` and `over`, since `ring` and `outside` in specs make a target of any number.
 #[derive(Clone, Copy)]
 pub(crate) struct Target {
     first: usize,

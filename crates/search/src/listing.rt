@@ -26,7 +26,7 @@ fn layers(graph: &Graph, start: Start, arrival: Arrival) -> [Row; 34]
 // Whether an edge leads from the row to the weight `left` at `node`.
 fn leads_into(from: &Row, edge: &Edge, node: usize, left: u32) -> bool
     // Definitions make an edge of any reference, so the type of an edge can't carry its bound.
-    // Nor does the type of rows, whose bounds differ from call to call.
+    // Nor can the type of rows, whose bounds differ from call to call.
     requires bounded { Bounded edge.now }
     requires low { AllByRecursion (Low 8192) from.now }
     ensures { result ≡ into from.now node left edge.now }

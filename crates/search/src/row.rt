@@ -24,7 +24,7 @@ pub(crate) fn lift(edge: &Edge) -> u32
 // One edge's part in a step; most often the place is no lower already, and nothing is written.
 fn extend(from: &Row, to: &mut Row, edge: &Edge)
     // Definitions make an edge of any reference, so the type of an edge can't carry its bound.
-    // Nor does the type of rows, whose bounds differ from call to call.
+    // Nor can the type of rows, whose bounds differ from call to call.
     requires bounded { Bounded edge.now }
     requires low { AllByRecursion (Low 8192) from.now }
     ensures { to.new ≡ extended from.now to.old edge.now }
