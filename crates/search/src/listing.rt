@@ -26,7 +26,7 @@ fn layers(graph: &Graph, start: Start, arrival: Arrival) -> [Row; 34]
 // Whether an edge leads from the row to the weight `left` at `node`.
 fn leads_into(from: &Row, edge: &Edge, node: usize, left: u32) -> bool
     // Definitions make an edge of any reference, so the type of an edge can't carry its bound.
-    // Nor can the type of rows, whose bounds differ from call to call.
+    // Nor can the type of rows, whose bound a step raises.
     requires bounded { Bounded edge.now }
     requires low { AllByRecursion (Low 8192) from.now }
     ensures { result ≡ into from.now node left edge.now }
@@ -36,7 +36,7 @@ fn leads_into(from: &Row, edge: &Edge, node: usize, left: u32) -> bool
 
 // The first edge that leads from the row to the weight `left` at `node`.
 fn find_into<'a>(graph: &'a Graph, from: &Row, node: usize, left: u32) -> Option<&'a Edge>
-    // Of the row, since the bounds of rows differ from call to call.
+    // A step raises the bound, so its result would not have it.
     requires { AllByRecursion (Low 8192) from.now }
     ensures { option_copied result ≡ find (into from.now node left) graph.now.edges.now }
 {

@@ -8,7 +8,7 @@ use walks::edge::Edge;
 use walks::graph::{Graph, NODES};
 
 // By node; None where no walk ends. An array, since a search must not fail for want of memory.
-// Its numbers carry no bound in their type, since the bound of a row differs from call to call:
+// Its numbers carry no bound in their type, since a step raises the bound of a row:
 // what 33 edges weigh, 127 each at most once lifted, stays below 8192.
 pub(crate) type Row = [Option<u32>; NODES];
 
@@ -24,7 +24,7 @@ pub(crate) fn lift(edge: &Edge) -> u32
 // One edge's part in a step; most often the place is no lower already, and nothing is written.
 fn extend(from: &Row, to: &mut Row, edge: &Edge)
     // Definitions make an edge of any reference, so the type of an edge can't carry its bound.
-    // Nor can the type of rows, whose bounds differ from call to call.
+    // Nor can the type of rows, whose bound a step raises.
     requires bounded { Bounded edge.now }
     requires low { AllByRecursion (Low 8192) from.now }
     ensures { to.new ≡ extended from.now to.old edge.now }
@@ -42,7 +42,7 @@ fn extend(from: &Row, to: &mut Row, edge: &Edge)
 
 // The row of the walks that have one edge more.
 pub(crate) fn step(graph: &Graph, from: &Row) -> Row
-    // Of the row, since the bounds of rows differ from call to call.
+    // A step raises the bound, so its result would not have it.
     requires { AllByRecursion (Low 8192) from.now }
     ensures { result ≡ stepped graph.now.edges.now from.now }
 {
