@@ -1,5 +1,5 @@
 // A table on standard input, as raw bytes.
-ghost use Rattle.std.specs.Prelude.{◌≡◌, ◌≤◌, length, take, IfOk, IfSome};
+ghost use Rattle.std.specs.Prelude.{◌≡◌, ◌≤◌, Ok, length, take, IfOk, IfSome};
 
 use anyhow::Context;
 use std::alloc::{AllocError, Global};
@@ -24,12 +24,13 @@ pub fn read_at_most<R: Read + Drop>(alloc: Global, input: R, most: usize) -> any
     Ok(bytes)
 }
 
-// Prints what `tell` says of the table on standard input.
+// Prints what `tell` says of the table on standard input: where it succeeds, `tell` gave a text of at most 8,193 bytes.
 pub fn tell_input<F: Fn(Global, &[u8]) -> Result<String, AllocError>>(
     rt: &HostRuntime,
     tell: F,
 ) -> anyhow::Result<()>
     requires { F.IsAlwaysCallable tell }
+    ensures { IfOk result (λ _. (alloc : _) × (input : _) × (text : _) × (length input.now ≤ 8193) × F.post tell alloc input (Ok text)) }
 {
     let alloc = rt.alloc();
     let bytes = read_at_most(alloc, rt.stdin(), MOST)?;

@@ -32,7 +32,7 @@ pub fn tell_line<F: Fn(&[u8]) -> Result<String, AllocError>>(
     }
 }
 
-// Prints what `tell` says of each line; blank lines and those that begin with `#` are skipped.
+// Prints what `tell` says of each line; blank lines and those that begin with `#` are skipped. What lines came has no contract.
 pub fn tell_lines<F: Fn(Global, &str) -> Result<String, AllocError>>(
     rt: &HostRuntime,
     tell: F,
