@@ -1,6 +1,7 @@
 -- The first table, which has no records, is in order. Assumes nothing.
 use Rattle.std.proofs.Common.{◌≡◌, ℕ, List, [], ◌∷◌, Ok, sym, refl, ap, subst, arith}
 use Rattle.std.proofs.lemmas.Int.{ints}
+use Rattle.schedule.specs.declared.plan.Counts.{Counts}
 use Rattle.schedule.specs.declared.plan.Plan.{Plan}
 use Rattle.schedule.specs.Graphs.{graph, IsChannel}
 use Rattle.schedule.specs.Plans.{counted}
@@ -36,3 +37,7 @@ first_accepted bytes rs p b r e =
       };
       small = omega (arith, ap (λ c. c.slots) e);
     }))
+
+-- counts that are all 0 are those of no records
+pub none_counted : (c : Counts) → ((c.records.channels ≡ 0) × ((c.records.streams ≡ 0) × (c.records.rules ≡ 0))) × (c.slots ≡ 0) → c ≡ counted [] 0
+none_counted c ((a, (b, d)), z) = rw (a, b, d, z) refl

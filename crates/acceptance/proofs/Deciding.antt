@@ -10,17 +10,18 @@ use Rattle.schedule.specs.Plans.{Takes}
 use Rattle.schedule.specs.Scheduling.{Blames, Overfull}
 use Rattle.schedule.proofs.Taking.{takes_one}
 use Rattle.syntax.specs.Entries.{Entry}
-use Rattle.syntax.specs.declared.stop.Stop.{Stop}
-use Rattle.syntax.specs.declared.stop.Stop.TheVariants as stop
+use Rattle.faults.specs.declared.cause.Cause.{Cause}
+use Rattle.faults.specs.declared.fault.Layer.TheVariants as layer
+use Rattle.faults.specs.declared.stop.Stop.{Stop}
 use Rattle.syntax.specs.Written.{AcceptsWritten}
 use Rattle.walks.specs.declared.edge.SheetEntry.{SheetEntry}
 use Rattle.walks.specs.Walks.{Falling, Settled}
-use Rattle.acceptance.specs.declared.rejection.Rejection.{Rejection}
-use Rattle.acceptance.specs.declared.rejection.Rejection.TheVariants.{Refused, Memory}
+use Rattle.acceptance.specs.Rejecting.{Rejection}
+use Rattle.faults.specs.declared.stop.Stop.TheVariants.{Refused, Memory}
 use Rattle.acceptance.specs.declared.table.Table.{Table}
 use Rattle.tables.specs.Checking.{checked}
 use Rattle.acceptance.specs.Checking.{Accepts, Refuses, Admits, Answers, HasClosed, HasAhead, Decides, Decided}
-use Rattle.acceptance.specs.Rejecting.{rejected}
+use Rattle.faults.specs.Stops.{stop_made_by}
 use Rattle.acceptance.proofs.Passing.{order_of}
 
 module _ (rs : List Entry) where
@@ -92,6 +93,6 @@ module _ (bytes : List ℕ) (sheet sheet' : List SheetEntry) (law : AcceptsWritt
   decided old new (Err Memory) a = λ rs space order fed. absurd (fed refl)
 
 -- what is answered where no table is made
-pub rejects : (bytes : List ℕ) (sheet sheet' : List SheetEntry) (old new : Table) (s : Stop) → new ≡ old → Admits bytes sheet sheet' (Err s) → Answers old new bytes sheet sheet' (Err (rejected s))
-rejects bytes sheet sheet' old new (stop.Refused c) kept a = (kept, refl, a)
-rejects bytes sheet sheet' old new stop.Memory kept a = (kept, a.0, a.1)
+pub rejects : (bytes : List ℕ) (sheet sheet' : List SheetEntry) (old new : Table) (s : Stop Cause) (x : Rejection) → x ≡ stop_made_by layer.Table s → new ≡ old → Admits bytes sheet sheet' (Err s) → Answers old new bytes sheet sheet' (Err x)
+rejects bytes sheet sheet' old new (Refused c) x e kept a = rw e (kept, refl, a)
+rejects bytes sheet sheet' old new Memory x e kept a = rw e (kept, a.0, a.1)

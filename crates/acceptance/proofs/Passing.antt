@@ -1,8 +1,8 @@
 -- Bytes that are read, named and typed are in order; and where one of these stops, the check stops. Assumes nothing.
 use Rattle.std.proofs.Common.{◌≡◌, ℕ, ◌<◌, ◌≤◌, List, length, get_or, Ok, Err, Result, sym, refl, ap, ◌∙◌, subst, inr, arith, w8, Fits}
 use Rattle.faults.specs.declared.cause.Cause.{Cause}
-use Rattle.syntax.specs.declared.stop.Stop.{Stop}
-use Rattle.syntax.specs.declared.stop.Stop.TheVariants.{Refused, Memory}
+use Rattle.faults.specs.declared.stop.Stop.{Stop}
+use Rattle.faults.specs.declared.stop.Stop.TheVariants.{Refused, Memory}
 use Rattle.syntax.specs.Entries.{Entry}
 use Rattle.std.proofs.ByRecursion.{All-from_get_or}
 use Rattle.syntax.proofs.Accepted.{accepts_written}
@@ -65,7 +65,7 @@ module _ (bytes : List ℕ) (rs : List Entry) where
       record { space = space; version = ap (λ (l : List ℕ). get_or l 0 0) w.whole; size = w.size }
 
   -- where the plan stops, the check stops
-  pub plan_stopped : (sheet sheet' : List SheetEntry) (s : Stop) → AcceptsWritten bytes → checked bytes ≡ Ok rs → 33 ≤ length sheet → Scheduled rs sheet sheet' (Err s) → Admits bytes sheet sheet' (Err s)
+  pub plan_stopped : (sheet sheet' : List SheetEntry) (s : Stop Cause) → AcceptsWritten bytes → checked bytes ≡ Ok rs → 33 ≤ length sheet → Scheduled rs sheet sheet' (Err s) → Admits bytes sheet sheet' (Err s)
   plan_stopped sheet sheet' (Refused c) law e space b = inr (inr (space, rs, e, b))
   plan_stopped sheet sheet' Memory law e space kept = (kept, starved sheet law e space)
 

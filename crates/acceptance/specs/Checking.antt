@@ -11,13 +11,12 @@ use Rattle.schedule.specs.declared.plan.Counts.{Counts}
 use Rattle.schedule.specs.Graphs.{graph, IsChannel}
 use Rattle.schedule.specs.Plans.{Takes, counted}
 use Rattle.schedule.specs.Scheduling.{Blames}
-use Rattle.syntax.specs.declared.stop.Stop.{Stop}
-use Rattle.syntax.specs.declared.stop.Stop.TheVariants as stop
+use Rattle.faults.specs.declared.stop.Stop.{Stop}
 use Rattle.syntax.specs.Entries.{Entry, entries_of}
 use Rattle.walks.specs.declared.edge.SheetEntry.{SheetEntry}
 use Rattle.walks.specs.Walks.{Walk, weigh, Rising, Falling, Settled}
-use Rattle.acceptance.specs.declared.rejection.Rejection.{Rejection}
-use Rattle.acceptance.specs.declared.rejection.Rejection.TheVariants.{Refused, Memory}
+use Rattle.acceptance.specs.Rejecting.{Rejection}
+use Rattle.faults.specs.declared.stop.Stop.TheVariants.{Refused, Memory}
 use Rattle.acceptance.specs.declared.table.Table.{Table}
 use Rattle.tables.specs.Checking.{checked}
 
@@ -57,10 +56,10 @@ Answers old new bytes sheet sheet' (Err (Refused f)) = (new ≡ old) × (f ≡ m
 Answers old new bytes sheet sheet' (Err Memory) = (new ≡ old) × (sheet' ≡ sheet) × Starved bytes sheet
 
 -- the same of a table that is made, before another gives way to it
-abbrev pub Admits : List ℕ → List SheetEntry → List SheetEntry → Result Table Stop → Type 0
+abbrev pub Admits : List ℕ → List SheetEntry → List SheetEntry → Result Table (Stop Cause) → Type 0
 Admits bytes sheet sheet' (Ok t) = (33 ≤ length sheet) × (sheet' ≡ sheet) × Accepts bytes t.plan.counts × Holds t bytes t.plan.counts
-Admits bytes sheet sheet' (Err (stop.Refused c)) = Refuses bytes sheet sheet' c
-Admits bytes sheet sheet' (Err stop.Memory) = (sheet' ≡ sheet) × Starved bytes sheet
+Admits bytes sheet sheet' (Err (Refused c)) = Refuses bytes sheet sheet' c
+Admits bytes sheet sheet' (Err Memory) = (sheet' ≡ sheet) × Starved bytes sheet
 
 -- the first table: the byte 01 alone
 abbrev pub First : Table → Type 0

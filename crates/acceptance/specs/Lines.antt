@@ -8,8 +8,8 @@ use Rattle.schedule.specs.declared.plan.Counts.{Counts}
 use Rattle.schedule.specs.Lines.{size_text}
 use Rattle.walks.specs.declared.edge.SheetEntry.{SheetEntry}
 use Rattle.walks.specs.Lines.{entry_line}
-use Rattle.acceptance.specs.declared.rejection.Rejection.{Rejection}
-use Rattle.acceptance.specs.declared.rejection.Rejection.TheVariants.{Refused, Memory}
+use Rattle.acceptance.specs.Rejecting.{Rejection}
+use Rattle.faults.specs.declared.stop.Stop.TheVariants.{Refused, Memory}
 use Rattle.acceptance.specs.declared.table.Table.{Table}
 use Rattle.acceptance.specs.Checking.{Answers, First}
 

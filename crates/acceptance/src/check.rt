@@ -5,11 +5,11 @@ ghost use Rattle.acceptance.specs.Checking.{Admits, Answers, First, Decided};
 use crate::rejection::Rejection;
 use crate::table::Table;
 use faults::cause::Cause;
+use faults::fault::Layer;
+use faults::stop::Stop;
 use schedule::ordered::OrderedRecords;
 use schedule::plan::{Counts, Plan, Ring, make_plan};
 use std::alloc::{AllocError, Global};
-use syntax::record;
-use syntax::stop::Stop;
 use tables::reading::read_checked;
 use walks::edge::SheetEntry;
 use walks::graph::NODES;
@@ -41,16 +41,8 @@ impl Table {
         ensures { IfOk result First }
     {
         let bytes = vec![in alloc; 1u8]?;
-        let counts = Counts {
-            records: record::Counts {
-                channels: 0,
-                streams: 0,
-                rules: 0,
-            },
-            slots: 0,
-        };
         let plan = Plan {
-            counts,
+            counts: Counts::default(),
             leads: [0; NODES],
             order: [0; 32],
             rings: [Ring::default(); 48],
@@ -73,7 +65,11 @@ impl Table {
         ensures answer { Answers self.old self.new bytes.now sheet.old sheet.new result }
         ensures law { Decided bytes.now sheet.old result }
     {
-        let table = accept(alloc, bytes, sheet)?;
+        // A match: of `map_err` a proof learns too little of what its closure answered.
+        let table = match accept(alloc, bytes, sheet) {
+            Ok(table) => table,
+            Err(stop) => return Err(stop.made_by(Layer::Table)),
+        };
         let counts = table.plan.counts;
         *self = table;
         Ok(counts)

@@ -1,7 +1,6 @@
 // The line that tells what the bytes of a table are.
-ghost use Rattle.std.specs.Prelude.{◌≡◌, ◌++◌, take, IfOk, string_bytes};
-ghost use Rattle.std.specs.List.{flat_map};
-ghost use Rattle.acceptance.specs.Lines.{line, listed, reference_line, Asked, TellsLine, TellsWalk};
+ghost use Rattle.std.specs.Prelude.{◌≡◌, IfOk, string_bytes};
+ghost use Rattle.acceptance.specs.Lines.{line, line_and_walk, listed, Asked, TellsLine, TellsWalk};
 
 use crate::rejection::Rejection;
 use crate::table::Table;
@@ -17,72 +16,75 @@ pub const BLANK_SHEET: [SheetEntry; 33] = [SheetEntry {
     drop: 0,
 }; 33];
 
-// The line of an answer: the counts of an accepted table, or the number and place of a refusal.
-fn write_line(alloc: Global, answer: &Result<Counts, Rejection>) -> Result<String, AllocError>
-    ensures { IfOk result (λ text. string_bytes text ≡ line answer.now) }
-{
-    match answer {
-        Ok(counts) => format!(in alloc; "accepted {counts}"),
-        Err(Rejection::Refused(fault)) => format!(in alloc; "{fault}"),
-        Err(Rejection::Memory) => Err(AllocError),
-    }
+// What the check of a table answers, and the sheet after it.
+#[derive(Clone, Copy)]
+pub struct Outcome {
+    pub answer: Result<Counts, Rejection>,
+    pub sheet: [SheetEntry; 33],
 }
 
-// How many references of a walk an answer lists in the sheet: as many as the place says where a walk is to blame.
-fn count_listed(answer: &Result<Counts, Rejection>) -> usize
-    ensures { result ≡ listed answer.now }
-{
-    match answer {
-        Err(Rejection::Refused(fault)) => match fault.cause {
-            Cause::ClosedWalk(references) | Cause::ChannelWalk(references) => references,
-            _ => 0,
-        },
-        Ok(_) | Err(Rejection::Memory) => 0,
+impl Outcome {
+    // The line of the answer: the counts of an accepted table, or the number and place of a refusal.
+    fn write_line(&self, alloc: Global) -> Result<String, AllocError>
+        ensures { IfOk result (λ text. string_bytes text ≡ line self.now.answer) }
+    {
+        match self.answer {
+            Ok(counts) => format!(in alloc; "accepted {counts}"),
+            Err(rejection) => {
+                let fault = rejection.refused()?;
+                format!(in alloc; "{fault}")
+            }
+        }
     }
-}
 
-// A line for each of the sheet's first entries, after the text before them.
-fn add_walk(
-    alloc: Global,
-    mut text: String,
-    sheet: &[SheetEntry],
-    count: usize,
-) -> Result<String, AllocError>
-    ensures { IfOk result (λ t. string_bytes t ≡ string_bytes text ++ flat_map reference_line (take count sheet.now)) }
-{
-    for entry in sheet.iter().copied().take(count) {
-        let line = format!(in alloc; "\n{entry}")?;
-        text.push_str(&line)?;
+    // How many references of a walk the answer lists in the sheet: as many as the place says where a walk is to blame.
+    fn count_listed(&self) -> usize
+        ensures { result ≡ listed self.now.answer }
+    {
+        match self.answer {
+            Err(Rejection::Refused(fault)) => match fault.cause {
+                Cause::ClosedWalk(references) | Cause::ChannelWalk(references) => references,
+                _ => 0,
+            },
+            Ok(_) | Err(Rejection::Memory) => 0,
+        }
     }
-    Ok(text)
+
+    // The same line, and then a line for each reference that the answer lists.
+    fn write_walk(&self, alloc: Global) -> Result<String, AllocError>
+        ensures { IfOk result (λ text. string_bytes text ≡ line_and_walk self.now.answer self.now.sheet) }
+    {
+        let mut text = self.write_line(alloc)?;
+        for entry in self.sheet.iter().copied().take(self.count_listed()) {
+            let line = format!(in alloc; "\n{entry}")?;
+            text.push_str(&line)?;
+        }
+        Ok(text)
+    }
 }
 
 // What the check of a first table answers of the bytes, and the sheet after it.
-pub fn ask(
-    alloc: Global,
-    bytes: &[u8],
-) -> Result<(Result<Counts, Rejection>, [SheetEntry; 33]), AllocError>
-    ensures { IfOk result (λ asked. Asked bytes.now asked.0 asked.1) }
+pub fn ask(alloc: Global, bytes: &[u8]) -> Result<Outcome, AllocError>
+    ensures { IfOk result (λ outcome. Asked bytes.now outcome.answer outcome.sheet) }
 {
     let mut table = Table::new(alloc)?;
     let mut sheet = BLANK_SHEET;
     let answer = table.check(alloc, bytes, &mut sheet);
-    Ok((answer, sheet))
+    Ok(Outcome { answer, sheet })
 }
 
 // The line that tells what the bytes are, by the check of a first table with a sheet of its own.
 pub fn tell(alloc: Global, bytes: &[u8]) -> Result<String, AllocError>
     ensures { IfOk result (λ text. TellsLine bytes.now (string_bytes text)) }
 {
-    let (answer, _sheet) = ask(alloc, bytes)?;
-    write_line(alloc, &answer)
+    let outcome = ask(alloc, bytes)?;
+    outcome.write_line(alloc)
 }
 
 // The same, and after refusals 8 and 9 a line for each reference of the walk to blame.
 pub fn tell_walk(alloc: Global, bytes: &[u8]) -> Result<String, AllocError>
     ensures { IfOk result (λ text. TellsWalk bytes.now (string_bytes text)) }
 {
-    let (answer, sheet) = ask(alloc, bytes)?;
-    let text = write_line(alloc, &answer)?;
-    add_walk(alloc, text, &sheet, count_listed(&answer))
+    let outcome = ask(alloc, bytes)?;
+    outcome.write_walk(alloc)
 }

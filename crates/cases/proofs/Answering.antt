@@ -14,8 +14,8 @@ use Rattle.schedule.proofs.Taking.{takes_one}
 use Rattle.syntax.specs.Entries.{Entry}
 use Rattle.walks.specs.declared.edge.SheetEntry.{SheetEntry}
 use Rattle.walks.specs.Walks.{Walk, weigh, at, Apart, Rising, Falling, Settled, TellsClosed, TellsAhead}
-use Rattle.acceptance.specs.declared.rejection.Rejection.{Rejection}
-use Rattle.acceptance.specs.declared.rejection.Rejection.TheVariants.{Refused, Memory}
+use Rattle.acceptance.specs.Rejecting.{Rejection}
+use Rattle.faults.specs.declared.stop.Stop.TheVariants.{Refused, Memory}
 use Rattle.tables.specs.Checking.{checked}
 use Rattle.acceptance.specs.Checking.{Accepts, Refuses}
 use Rattle.acceptance.proofs.Deciding.{same_records}

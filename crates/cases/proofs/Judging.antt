@@ -2,8 +2,8 @@
 use Rattle.std.proofs.Common.{◌≡◌, ℕ, List, Ok, Err, Result, ap, ◌∙◌, arith}
 use Rattle.faults.specs.declared.cause.Cause.{Cause}
 use Rattle.schedule.specs.declared.plan.Counts.{Counts}
-use Rattle.acceptance.specs.declared.rejection.Rejection.{Rejection}
-use Rattle.acceptance.specs.declared.rejection.Rejection.TheVariants.{Refused, Memory}
+use Rattle.acceptance.specs.Rejecting.{Rejection}
+use Rattle.faults.specs.declared.stop.Stop.TheVariants.{Refused, Memory}
 use Rattle.cases.specs.Cases.{Checks, AcceptedWith, RefusedFor, Says, Verdict}
 
 -- memory does not fail where something is said

@@ -9,8 +9,8 @@ use Rattle.schedule.specs.Plans.{lead_by}
 use Rattle.syntax.specs.Entries.{Entry}
 use Rattle.walks.specs.declared.edge.SheetEntry.{SheetEntry}
 use Rattle.walks.specs.Walks.{Lead, Ring}
-use Rattle.acceptance.specs.declared.rejection.Rejection.{Rejection}
-use Rattle.acceptance.specs.declared.rejection.Rejection.TheVariants.{Refused, Memory}
+use Rattle.acceptance.specs.Rejecting.{Rejection}
+use Rattle.faults.specs.declared.stop.Stop.TheVariants.{Refused, Memory}
 use Rattle.acceptance.specs.declared.table.Table.{Table}
 use Rattle.tables.specs.Checking.{checked}
 use Rattle.acceptance.specs.Checking.{Answers}

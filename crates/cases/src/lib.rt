@@ -46,8 +46,7 @@ fn verdict(answer: Result<Counts, Rejection>) -> Result<Result<usize, Cause>, Al
 {
     match answer {
         Ok(counts) => Ok(Ok(counts.slots)),
-        Err(Rejection::Refused(fault)) => Ok(Err(fault.cause)),
-        Err(Rejection::Memory) => Err(AllocError),
+        Err(rejection) => Ok(Err(rejection.refused()?.cause)),
     }
 }
 
@@ -55,8 +54,7 @@ fn verdict(answer: Result<Counts, Rejection>) -> Result<Result<usize, Cause>, Al
 fn judge(alloc: Global, bytes: &[u8]) -> Result<Result<usize, Cause>, AllocError>
     ensures { IfOk result (λ v. Verdict bytes.now v) }
 {
-    let (answer, _sheet) = ask(alloc, bytes)?;
-    verdict(answer)
+    verdict(ask(alloc, bytes)?.answer)
 }
 
 // What the check answers of the worked tables.

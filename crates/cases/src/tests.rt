@@ -64,9 +64,9 @@ fn lists_the_walk_to_blame(rt: HostRuntime) -> Result<(), Fail> {
 
 #[test]
 fn asks_a_first_table(rt: HostRuntime) -> Result<(), Fail> {
-    let (answer, sheet) = ask(rt.alloc(), &TWO_STREAMS)?;
-    assert!(rt; answer.is_ok());
-    assert!(rt; sheet.as_slice() == BLANK_SHEET.as_slice());
+    let outcome = ask(rt.alloc(), &TWO_STREAMS)?;
+    assert!(rt; outcome.answer.is_ok());
+    assert!(rt; outcome.sheet.as_slice() == BLANK_SHEET.as_slice());
     Ok(())
 }
 

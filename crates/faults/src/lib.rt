@@ -3,3 +3,4 @@
 
 pub mod cause;
 pub mod fault;
+pub mod stop;

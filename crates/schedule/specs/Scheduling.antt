@@ -2,8 +2,8 @@
 use Rattle.std.specs.Prelude.{◌≡◌, ℕ, ◌<◌, ◌≤◌, ◌⊎◌, List, Ok, Err, Result}
 use Rattle.faults.specs.declared.cause.Cause.{Cause}
 use Rattle.faults.specs.declared.cause.Cause.TheVariants.{Slots}
-use Rattle.syntax.specs.declared.stop.Stop.{Stop}
-use Rattle.syntax.specs.declared.stop.Stop.TheVariants.{Refused, Memory}
+use Rattle.faults.specs.declared.stop.Stop.{Stop}
+use Rattle.faults.specs.declared.stop.Stop.TheVariants.{Refused, Memory}
 use Rattle.syntax.specs.Entries.{Entry}
 use Rattle.walks.specs.declared.edge.SheetEntry.{SheetEntry}
 use Rattle.walks.specs.Walks.{Falling, Settled}
@@ -24,7 +24,7 @@ abbrev pub Blames : List Entry → List SheetEntry → List SheetEntry → Cause
 Blames rs old new c = BlamesWalk (graph rs) IsChannel (told rs) old new c ⊎ ((z : ℕ) × (c ≡ Slots z) × (new ≡ old) × Overfull rs z)
 
 -- a plan of at most 2,048 slots, or why there is none; where memory fails, the sheet is as it was
-abbrev pub Scheduled : List Entry → List SheetEntry → List SheetEntry → Result Plan Stop → Type 0
+abbrev pub Scheduled : List Entry → List SheetEntry → List SheetEntry → Result Plan (Stop Cause) → Type 0
 Scheduled rs old new (Ok p) = (new ≡ old) × Planned rs p × (p.counts.slots ≤ 2048)
 Scheduled rs old new (Err (Refused c)) = Blames rs old new c
 Scheduled rs old new (Err Memory) = new ≡ old

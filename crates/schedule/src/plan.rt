@@ -13,7 +13,7 @@ use layout::layout::Layout;
 use std::alloc::Global;
 use std::fmt;
 use syntax::record;
-use syntax::stop::Stop;
+use faults::stop::Stop;
 use walks::edge::SheetEntry;
 use walks::graph::{Graph, NODES};
 
@@ -21,7 +21,7 @@ use walks::graph::{Graph, NODES};
 const MOST_SLOTS: usize = 2048;
 
 // How many records of each kind a table has, and how many slots its rings take, which only a planned table has.
-#[derive(Clone, Copy, Debug, PartialEq, Eq)]
+#[derive(Clone, Copy, Debug, Default, PartialEq, Eq)]
 pub struct Counts {
     pub records: record::Counts,
     pub slots: usize,

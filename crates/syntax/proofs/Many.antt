@@ -2,8 +2,8 @@
 use Rattle.std.proofs.Common.{◌≡◌, ℕ, suc, ◌+◌, ◌-◌, ◌<◌, ◌≤◌, List, [], ◌∷◌, ◌++◌, Ok, Err, sym, refl, ap, ◌∙◌, arith}
 use Rattle.std.proofs.lemmas.List.{append-nil, append_assoc}
 use Rattle.faults.specs.declared.cause.Cause.{Cause}
-use Rattle.syntax.specs.declared.stop.Stop.{Stop}
-use Rattle.syntax.specs.declared.stop.Stop.TheVariants.{Refused, Memory}
+use Rattle.faults.specs.declared.stop.Stop.{Stop}
+use Rattle.faults.specs.declared.stop.Stop.TheVariants.{Refused, Memory}
 use Rattle.syntax.specs.Readers.{Stopped}
 use Rattle.syntax.specs.Answers.{Found, then}
 use Rattle.syntax.specs.Reading.{many}
@@ -54,6 +54,6 @@ module _ {X : Type 0} (one : ℕ → Found X) where
         w ∙ ap (λ m. onto items (many one m at)) s ∙ ap (onto items) (many_none at) ∙ ap (λ l. Ok (l, at)) (append-nil items)
 
     -- what stops one part stops the whole
-    pub many_stopped : (s : Stop) (items : List X) (k i at : ℕ) → i < k → Stopped s (one at) → whole ≡ onto items (many one (k - i) at) → Stopped s whole
+    pub many_stopped : (s : Stop Cause) (items : List X) (k i at : ℕ) → i < k → Stopped s (one at) → whole ≡ onto items (many one (k - i) at) → Stopped s whole
     many_stopped (Refused x) items k i at h e w = many_err items k i at x h e w
     many_stopped Memory items k i at h e w = tt

@@ -4,8 +4,8 @@ use Rattle.std.proofs.lemmas.Bool.{eq-eqb, lt-ltb, le-ltb, le-leb, cond-true, co
 use Rattle.std.specs.declared.alloc.Global.{Global}
 use Rattle.syntax.specs.declared.record.Record.{Record}
 use Rattle.faults.specs.declared.cause.Cause.{Cause}
-use Rattle.syntax.specs.declared.stop.Stop.{Stop}
-use Rattle.syntax.specs.declared.stop.Stop.TheVariants.{Refused, Memory}
+use Rattle.faults.specs.declared.stop.Stop.{Stop}
+use Rattle.faults.specs.declared.stop.Stop.TheVariants.{Refused, Memory}
 use Rattle.syntax.specs.Answers.{then}
 use Rattle.syntax.specs.Readers.{Stopped}
 use Rattle.faults.specs.declared.cause.Cause.TheVariants.{Limit}
@@ -25,7 +25,7 @@ module _ (whole : Result (List Entry) Cause) (bs : List ℕ) (items : List Entry
   entries_err zero x h g e w = absurd (omega arith)
   entries_err (suc f) x h g e w = w ∙ cond-true _ _ _ (lt-ltb at (length bs) h) ∙ ap (λ x. then x (λ r n. entries f (items ++ (r ∷ [])) bs n)) e
 
-  pub entries_stopped : {starved : Type 0} (s : Stop) (f : ℕ) → starved → at < length bs → length bs ≤ at + f → Stopped s (entry_from items bs at) → whole ≡ entries f items bs at → Yields starved (Err s) whole
+  pub entries_stopped : {starved : Type 0} (s : Stop Cause) (f : ℕ) → starved → at < length bs → length bs ≤ at + f → Stopped s (entry_from items bs at) → whole ≡ entries f items bs at → Yields starved (Err s) whole
   entries_stopped (Refused x) f m h l e w = entries_err f x h l e w
   entries_stopped Memory f m h l e w = m
 
@@ -54,7 +54,7 @@ module _ (bs : List ℕ) (version : get_or bs 0 0 ≡ 1) (size : length bs ≤ 8
   unfolding read_table
   table_is = cond-true _ _ _ (eq-eqb (get_or bs 0 0) 1 version) ∙ cond-true _ _ _ (le-leb (length bs) 8192 size)
 
-  pub table_yields : (r : Result (Vec Record Global) Stop) → Yields (1 < length bs) r (entries (length bs) [] bs 1) → Yields (Begun bs) r (read_table bs)
+  pub table_yields : (r : Result (Vec Record Global) (Stop Cause)) → Yields (1 < length bs) r (entries (length bs) [] bs 1) → Yields (Begun bs) r (read_table bs)
   table_yields (Ok records) e = table_is ∙ e
   table_yields (Err (Refused x)) e = table_is ∙ e
   table_yields (Err Memory) more = (version, size, more)

@@ -2,8 +2,8 @@
 use Rattle.std.specs.Prelude.{◌≡◌, Ok, Err, Result}
 use Rattle.faults.specs.declared.cause.Cause.{Cause}
 use Rattle.syntax.specs.declared.reader.Reader.{Reader}
-use Rattle.syntax.specs.declared.stop.Stop.{Stop}
-use Rattle.syntax.specs.declared.stop.Stop.TheVariants.{Refused, Memory}
+use Rattle.faults.specs.declared.stop.Stop.{Stop}
+use Rattle.faults.specs.declared.stop.Stop.TheVariants.{Refused, Memory}
 use Rattle.syntax.specs.Answers.{Found}
 
 -- the answer is what was found, as f sees it, and the reader went on to the place after it; or its refusal
@@ -12,11 +12,11 @@ Finds f old new (Ok x) found = (new.bytes.now ≡ old.bytes.now) × (found ≡ O
 Finds f old new (Err c) found = found ≡ Err c
 
 -- why reading stopped is the refusal that was found; nothing is said where memory fails
-abbrev pub Stopped : {Y : Type 0} → Stop → Found Y → Type 0
+abbrev pub Stopped : {Y : Type 0} → Stop Cause → Found Y → Type 0
 Stopped (Refused c) found = found ≡ Err c
 Stopped Memory found = Unit {0}
 
 -- the same where memory may fail
-abbrev pub Reads : {X Y : Type 0} → (X → Y) → Reader → Reader → Result X Stop → Found Y → Type 0
+abbrev pub Reads : {X Y : Type 0} → (X → Y) → Reader → Reader → Result X (Stop Cause) → Found Y → Type 0
 Reads f old new (Ok x) found = (new.bytes.now ≡ old.bytes.now) × (found ≡ Ok (f x, new.at))
 Reads f old new (Err stop) found = Stopped stop found

@@ -6,8 +6,8 @@ use Rattle.faults.specs.declared.cause.Cause.TheVariants.{Version, Ended, Malfor
 use Rattle.syntax.specs.declared.record.Kind.{Kind}
 use Rattle.syntax.specs.declared.record.Kind.TheVariants.{Channel, Stream, Rule}
 use Rattle.syntax.specs.declared.record.Record.{Record}
-use Rattle.syntax.specs.declared.stop.Stop.{Stop}
-use Rattle.syntax.specs.declared.stop.Stop.TheVariants.{Refused, Memory}
+use Rattle.faults.specs.declared.stop.Stop.{Stop}
+use Rattle.faults.specs.declared.stop.Stop.TheVariants.{Refused, Memory}
 use Rattle.syntax.specs.Answers.{Found, then}
 use Rattle.syntax.specs.Heads.{within, named, type_from, value_from}
 use Rattle.syntax.specs.Parsing.{parse}
@@ -63,7 +63,7 @@ read_table bs =
     cond (slice_index bs 0 == 1) (cond (nat_le (length bs) 8192) (entries (length bs) [] bs 1) (Err (Limit 8192))) (Err Version)
 
 -- the answer is the records that were found, or why there are none; where memory fails, `starved` holds
-abbrev pub Yields : Type 0 → Result (Vec Record Global) Stop → Result (List Entry) Cause → Type 0
+abbrev pub Yields : Type 0 → Result (Vec Record Global) (Stop Cause) → Result (List Entry) Cause → Type 0
 Yields starved (Ok records) found = found ≡ Ok (entries_of records)
 Yields starved (Err (Refused x)) found = found ≡ Err x
 Yields starved (Err Memory) found = starved

@@ -9,7 +9,7 @@ ghost use Rattle.syntax.specs.declared.record.Kind.TheVariants as kinds;
 use crate::part::Part;
 use crate::reader::Reader;
 use crate::record::{Kind, Record, Rule, Stream};
-use crate::stop::Stop;
+use faults::stop::Stop;
 use crate::tree::DEPTH;
 use faults::cause::Cause;
 use std::alloc::Global;

@@ -4,7 +4,7 @@ ghost use Rattle.syntax.specs.Trees.{exp};
 ghost use Rattle.syntax.specs.Readers.{Reads};
 
 use crate::reader::Reader;
-use crate::stop::Stop;
+use faults::stop::Stop;
 use crate::tree::{Expr, Node};
 use std::alloc::Global;
 

@@ -8,6 +8,5 @@ mod head;
 mod part;
 mod reader;
 pub mod record;
-pub mod stop;
 pub mod table;
 pub mod tree;

@@ -8,7 +8,7 @@ ghost use Rattle.syntax.specs.Trees.{Exp, exp};
 ghost use Rattle.values.specs.declared.value.Value.{Value};
 
 use crate::reader::Reader;
-use crate::stop::Stop;
+use faults::stop::Stop;
 use crate::tree::Expr;
 use std::alloc::Global;
 use values::types::Type;

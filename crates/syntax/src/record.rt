@@ -96,7 +96,7 @@ pub fn count(records: &[Record], kind: Kind) -> usize
 }
 
 // How many records of each kind a table has.
-#[derive(Clone, Copy, Debug, PartialEq, Eq)]
+#[derive(Clone, Copy, Debug, Default, PartialEq, Eq)]
 pub struct Counts {
     pub channels: usize,
     pub streams: usize,

@@ -7,7 +7,7 @@ ghost use Rattle.syntax.specs.Written.{AcceptsWritten};
 
 use crate::reader::Reader;
 use crate::record::{Kind, Record, count};
-use crate::stop::Stop;
+use faults::stop::Stop;
 use faults::cause::Cause;
 use std::alloc::Global;
 

@@ -1,8 +1,8 @@
 -- Where reading, names or types stop, the check stops. Assumes nothing.
 use Rattle.std.proofs.Common.{◌≡◌, ℕ, ◌<◌, List, [], ◌∷◌, length, get_or, Ok, Err, Result, ap, ◌∙◌, arith}
 use Rattle.faults.specs.declared.cause.Cause.{Cause}
-use Rattle.syntax.specs.declared.stop.Stop.{Stop}
-use Rattle.syntax.specs.declared.stop.Stop.TheVariants.{Refused, Memory}
+use Rattle.faults.specs.declared.stop.Stop.{Stop}
+use Rattle.faults.specs.declared.stop.Stop.TheVariants.{Refused, Memory}
 use Rattle.syntax.specs.Entries.{Entry}
 use Rattle.syntax.specs.Reading.{read_table, Yields, Begun}
 use Rattle.syntax.specs.Written.{Written, AcceptsWritten}
@@ -23,7 +23,7 @@ module _ (bytes : List ℕ) where
   abbrev named_next : List Entry → Result (List Entry) Cause
   named_next rs = then (undeclared_in rs) (λ _. typed_next rs)
 
-  pub read_stopped : (s : Stop) → Yields (Begun bytes) (Err s) (read_table bytes) → Reads bytes (Err s)
+  pub read_stopped : (s : Stop Cause) → Yields (Begun bytes) (Err s) (read_table bytes) → Reads bytes (Err s)
   unfolding checked
   read_stopped (Refused x) e = ap (λ f. then f named_next) e
   read_stopped Memory h = h
@@ -38,7 +38,7 @@ module _ (bytes : List ℕ) where
       unfolding checked
       typed_from o e = ap (λ f. then f named_next) read ∙ ap (λ f. then f (λ _. typed_next rs)) named ∙ ap (λ f. then f (λ _. Ok rs)) e
 
-      pub types_stopped : (s : Stop) → Typed (Err s) rs → Reads bytes (Err s)
+      pub types_stopped : (s : Stop Cause) → Typed (Err s) rs → Reads bytes (Err s)
       types_stopped (Refused x) e = typed_from (Err x) e
       types_stopped Memory h = begun bytes rs ((law rs).0 read) h
 

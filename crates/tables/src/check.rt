@@ -6,7 +6,7 @@ ghost use Rattle.tables.specs.Lines.{line};
 use crate::reading::read_checked;
 use std::alloc::{AllocError, Global};
 use syntax::record::Counts;
-use syntax::stop::Stop;
+use faults::stop::Stop;
 
 // Counts the records of a table that is read and typed; or says why the bytes are none.
 pub fn check(alloc: Global, bytes: &[u8]) -> Result<Counts, Stop>
@@ -22,7 +22,9 @@ pub fn answer(alloc: Global, bytes: &[u8]) -> Result<String, AllocError>
 {
     match check(alloc, bytes) {
         Ok(counts) => format!(in alloc; "read {counts}"),
-        Err(Stop::Refused(cause)) => format!(in alloc; "{cause}"),
-        Err(Stop::Memory) => Err(AllocError),
+        Err(stop) => {
+            let cause = stop.refused()?;
+            format!(in alloc; "{cause}")
+        }
     }
 }

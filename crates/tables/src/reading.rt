@@ -4,7 +4,7 @@ ghost use Rattle.tables.specs.Checking.{Reads};
 use names::declared::check_names;
 use std::alloc::Global;
 use syntax::record::Record;
-use syntax::stop::Stop;
+use faults::stop::Stop;
 use syntax::table::read_table;
 use typing::typed::check_types;
 

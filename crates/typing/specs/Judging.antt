@@ -3,8 +3,9 @@ use Rattle.std.specs.Prelude.{◌≡◌, ◌<◌, Bool as Truth, true, cond, Lis
 use Rattle.faults.specs.declared.cause.Cause.TheVariants.{Mistyped}
 use Rattle.values.specs.declared.types.«Type».{«Type» as Ty}
 use Rattle.values.specs.declared.types.«Type».TheVariants.{Bool}
-use Rattle.syntax.specs.declared.stop.Stop.{Stop}
-use Rattle.syntax.specs.declared.stop.Stop.TheVariants.{Refused, Memory}
+use Rattle.faults.specs.declared.cause.Cause.{Cause}
+use Rattle.faults.specs.declared.stop.Stop.{Stop}
+use Rattle.faults.specs.declared.stop.Stop.TheVariants.{Refused, Memory}
 use Rattle.syntax.specs.Passing.{Passed, then, every}
 use Rattle.syntax.specs.Trees.{Exp}
 use Rattle.syntax.specs.Entries.{Entry, channel, stream, rule}
@@ -32,7 +33,7 @@ abbrev pub types_in : List Entry → Passed
 types_in rs = every (entry_judged (channel_types rs) (stream_types rs)) rs
 
 -- the answer is that refusal, or that there is none; memory fails only where there is a record
-abbrev pub Typed : Result (Unit {0}) Stop → List Entry → Type 0
+abbrev pub Typed : Result (Unit {0}) (Stop Cause) → List Entry → Type 0
 Typed (Ok u) rs = types_in rs ≡ Ok tt
 Typed (Err (Refused x)) rs = types_in rs ≡ Err x
 Typed (Err Memory) rs = 0 < length rs

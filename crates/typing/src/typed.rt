@@ -9,7 +9,7 @@ use crate::scope::Scope;
 use faults::cause::Cause;
 use std::alloc::Global;
 use syntax::record::Record;
-use syntax::stop::Stop;
+use faults::stop::Stop;
 use syntax::tree::{DEPTH, Expr};
 use values::types::Type;
 

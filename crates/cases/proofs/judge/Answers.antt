@@ -4,7 +4,7 @@ use Rattle.cases.proofs.judge.Goals as goal
 
 pub returns : goal.returns
 returns c =
-    let asked = c.in_ok-answer.ensures in
+    let asked = c.in_ok-ask.ensures in
     IfOk-weaker c.verdict.result _ _ (λ v e. record {
       before = asked.before;
       after = asked.after;
