@@ -13,9 +13,7 @@ use std::alloc::{AllocError, Global};
 use tables::reading::read_checked;
 use walks::edge::SheetEntry;
 use walks::graph::NODES;
-
-// How many entries a sheet has at least: a walk to a channel may take so many.
-const LEAST_SHEET: usize = 33;
+use walks::sheet::{LEAST_SHEET, Sheet};
 
 // The table that the bytes write; or why they write none, with a walk to blame in the sheet's first entries.
 fn accept(alloc: Global, bytes: &[u8], sheet: &mut [SheetEntry]) -> Result<Table, Stop>
@@ -24,9 +22,10 @@ fn accept(alloc: Global, bytes: &[u8], sheet: &mut [SheetEntry]) -> Result<Table
     if sheet.len() < LEAST_SHEET {
         return Err(Stop::Refused(Cause::ShortSheet(sheet.len())));
     }
+    let mut sheet = Sheet { entries: sheet };
     let records = read_checked(alloc, bytes)?;
     let ordered = OrderedRecords { records: &records };
-    let plan = make_plan(alloc, &ordered, sheet)?;
+    let plan = make_plan(alloc, &ordered, &mut sheet)?;
     let bytes = bytes.to_vec(alloc)?;
     Ok(Table {
         bytes,

@@ -8,19 +8,20 @@ use faults::cause::Cause;
 use schedule::plan::Counts;
 use std::alloc::{AllocError, Global};
 use walks::edge::SheetEntry;
+use walks::sheet::LEAST_SHEET;
 
 // A sheet with nothing listed in it yet.
-pub const BLANK_SHEET: [SheetEntry; 33] = [SheetEntry {
+pub const BLANK_SHEET: [SheetEntry; LEAST_SHEET] = [SheetEntry {
     reader: 0,
     read: 0,
     drop: 0,
-}; 33];
+}; LEAST_SHEET];
 
 // What the check of a table answers, and the sheet after it.
 #[derive(Clone, Copy)]
 pub struct Outcome {
     pub answer: Result<Counts, Rejection>,
-    pub sheet: [SheetEntry; 33],
+    pub sheet: [SheetEntry; LEAST_SHEET],
 }
 
 impl Outcome {

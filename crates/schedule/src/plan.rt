@@ -1,5 +1,5 @@
 // The plan of a table's values: where its rings lie, and in what order streams are evaluated.
-ghost use Rattle.std.specs.Prelude.{◌≤◌, Some, map, length};
+ghost use Rattle.std.specs.Prelude.{◌≡◌, ◌≤◌, Some, map};
 ghost use Rattle.syntax.specs.Entries.{entry_of};
 ghost use Rattle.schedule.specs.Placements.{Consecutive, Places};
 ghost use Rattle.schedule.specs.Scheduling.{Scheduled};
@@ -14,8 +14,8 @@ use std::alloc::Global;
 use std::fmt;
 use syntax::record;
 use faults::stop::Stop;
-use walks::edge::SheetEntry;
 use walks::graph::{Graph, NODES};
+use walks::sheet::Sheet;
 
 // How many slots the rings of a table take at most.
 const MOST_SLOTS: usize = 2048;
@@ -106,11 +106,10 @@ fn lay_plan(layout: &Layout, graph: &Graph, rules: usize) -> Plan
 pub fn make_plan(
     alloc: Global,
     ordered: &OrderedRecords<'_>,
-    sheet: &mut [SheetEntry],
+    sheet: &mut Sheet<'_>,
 ) -> Result<Plan, Stop>
-    // The sheet is the caller's, of any length from 33 on, which an array of 33 would narrow.
-    requires { 33 ≤ length sheet.old }
-    ensures { Scheduled (map entry_of ordered.now.records.now) sheet.old sheet.new result }
+    ensures scheduled { Scheduled (map entry_of ordered.now.records.now) sheet.old.entries.now sheet.new.entries.now result }
+    ensures same { sheet.new.entries.ghost_name ≡ sheet.old.entries.ghost_name }
 {
     let edges = list_edges(alloc, ordered)?;
     let counts = record::Counts::of(ordered.records);

@@ -1,13 +1,13 @@
 // The walks of a table: a layout of its values where no walk is to blame.
-ghost use Rattle.std.specs.Prelude.{◌≡◌, ℕ, ◌<◌, ◌≤◌, length, MatchBool, slice_index};
+ghost use Rattle.std.specs.Prelude.{◌≡◌, ℕ, ◌<◌, ◌≤◌, MatchBool, slice_index};
 ghost use Rattle.schedule.specs.Walking.{Weighed};
 
 use faults::cause::Cause;
 use layout::layout::{Layout, lay_out};
 use search::ahead::find_channel_walk;
 use search::closed::find_closed_walk;
-use walks::edge::SheetEntry;
 use walks::graph::{Graph, NODES};
+use walks::sheet::Sheet;
 
 // Whether some channel leads: then a walk to it weighs more than 0.
 fn channel_leads(leads: &[u32; NODES], channels: usize) -> bool
@@ -18,10 +18,9 @@ fn channel_leads(leads: &[u32; NODES], channels: usize) -> bool
 }
 
 // The layout of a table's edges, or the walk against it, which is then told in the sheet's first entries.
-pub(crate) fn weigh_walks(graph: &Graph, sheet: &mut [SheetEntry]) -> Result<Layout, Cause>
-    // The sheet is the caller's, of any length from 33 on, which an array of 33 would narrow.
-    requires { 33 ≤ length sheet.old }
-    ensures { Weighed graph.now.channels graph.now.streams graph.now.edges.now sheet.old sheet.new result }
+pub(crate) fn weigh_walks(graph: &Graph, sheet: &mut Sheet<'_>) -> Result<Layout, Cause>
+    ensures weighed { Weighed graph.now.channels graph.now.streams graph.now.edges.now sheet.old.entries.now sheet.new.entries.now result }
+    ensures same { sheet.new.entries.ghost_name ≡ sheet.old.entries.ghost_name }
 {
     let Some(layout) = lay_out(graph) else {
         return match find_closed_walk(graph, sheet) {

@@ -1,5 +1,5 @@
 // A closed walk that weighs 0 or more.
-ghost use Rattle.std.specs.Prelude.{◌≡◌, ◌≤◌, length, MatchOption};
+ghost use Rattle.std.specs.Prelude.{◌≡◌, MatchOption};
 ghost use Rattle.walks.specs.Walks.{Falling, TellsClosed};
 ghost use Rattle.walks.specs.Edges.{graph as graph_of, told};
 ghost use Rattle.search.specs.Arrivals.{Unclosed, Fewest};
@@ -7,8 +7,8 @@ ghost use Rattle.search.specs.Arrivals.{Unclosed, Fewest};
 use crate::arrival::{Target, first_arrival};
 use crate::listing::list_walk;
 use crate::row::{Arrival, Start};
-use walks::edge::SheetEntry;
 use walks::graph::Graph;
+use walks::sheet::Sheet;
 
 // The arrival of a closed walk of the fewest edges that weighs 0 or more, from any stream.
 fn least_closed(graph: &Graph) -> Option<Arrival>
@@ -30,12 +30,11 @@ fn least_closed(graph: &Graph) -> Option<Arrival>
 }
 
 // Some exactly where a closed walk weighs 0 or more: then such a walk of so many references, which comes to no node twice, stands in the sheet's first entries.
-pub fn find_closed_walk(graph: &Graph, sheet: &mut [SheetEntry]) -> Option<usize>
-    // The sheet is the caller's memory, whose length the check tests once.
-    requires space { 33 ≤ length sheet.old }
-    ensures { MatchOption result (Falling (graph_of graph.now.edges.now) × (sheet.new ≡ sheet.old)) (λ k. TellsClosed (graph_of graph.now.edges.now) told sheet.old sheet.new k) }
+pub fn find_closed_walk(graph: &Graph, sheet: &mut Sheet<'_>) -> Option<usize>
+    ensures found { MatchOption result (Falling (graph_of graph.now.edges.now) × (sheet.new.entries.now ≡ sheet.old.entries.now)) (λ k. TellsClosed (graph_of graph.now.edges.now) told sheet.old.entries.now sheet.new.entries.now k) }
+    ensures same { sheet.new.entries.ghost_name ≡ sheet.old.entries.ghost_name }
 {
     let found = least_closed(graph)?;
-    list_walk(graph, Start::at(found.node), found, sheet);
+    list_walk(graph, Start::at(found.node), found, sheet.entries);
     Some(found.length)
 }

@@ -3,3 +3,4 @@
 
 pub mod edge;
 pub mod graph;
+pub mod sheet;

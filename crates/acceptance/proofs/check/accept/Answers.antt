@@ -7,6 +7,8 @@ use Rattle.schedule.proofs.Standing.{orderly}
 use Rattle.syntax.specs.declared.record.Record.{Record}
 use Rattle.syntax.specs.Entries.{entry_of, entries_of}
 use Rattle.tables.specs.Checking.{checked}
+use Rattle.walks.specs.declared.edge.SheetEntry.{SheetEntry}
+use Rattle.acceptance.specs.Checking.{Admits}
 use Rattle.acceptance.proofs.Passing.{written_law, order_of, starved, plan_stopped, plan_accepts}
 use Rattle.acceptance.proofs.check.accept.Goals as goal
 
@@ -20,34 +22,35 @@ pub returns-in_err-plan : goal.returns-in_err-plan
 returns-in_err-plan c =
     let p = err_from_is_err_and c.from_residual-in_err-plan.result c.from_residual-in_err-plan.ensures.1 in
     let bytes = c.args.bytes.now in
-    let stopped = subst (λ (l : List Record). Scheduled (map entry_of l) c.args.sheet.now c.make_plan.new.sheet (Err c.in_err-plan.field-0.0)) c.deref.ensures.value c.in_err-plan.ensures in
+    let stopped = subst (λ (l : List Record). Scheduled (map entry_of l) c.args.sheet.now c.make_plan.new.sheet.entries.now (Err c.in_err-plan.field-0.0)) c.deref.ensures.value c.in_err-plan.ensures.scheduled in
     rw (p.1, p.2)
-    (plan_stopped bytes (entries_of c.in_ok-records.records) c.args.sheet.now c.make_plan.new.sheet c.in_err-plan.field-0.0 (written_law bytes c.type_inv.bytes)
-    c.in_ok-records.ensures c.if-sheet-lt-LEAST_SHEET.false stopped)
+    (subst (λ (x : List SheetEntry). Admits bytes c.args.sheet.now x (Err c.in_err-plan.field-0.0)) (search rules)
+    (plan_stopped bytes (entries_of c.in_ok-records.records) c.args.sheet.now c.make_plan.new.sheet.entries.now c.in_err-plan.field-0.0 (written_law bytes c.type_inv.bytes)
+    c.in_ok-records.ensures c.if-sheet-lt-LEAST_SHEET.false stopped))
 
 pub returns-in_err-bytes : goal.returns-in_err-bytes
 returns-in_err-bytes c =
     let p = err_from_is_err_and c.from_residual-in_err-bytes.result c.from_residual-in_err-bytes.ensures.1 in
     let bytes = c.args.bytes.now in
     rw (p.1, p.2)
-    (c.in_ok-plan.ensures.0, starved bytes (entries_of c.in_ok-records.records) c.args.sheet.now (written_law bytes c.type_inv.bytes) c.in_ok-records.ensures c.if-sheet-lt-LEAST_SHEET.false)
+    (search rules ∙ c.in_ok-plan.ensures.scheduled.0, starved bytes (entries_of c.in_ok-records.records) c.args.sheet.now (written_law bytes c.type_inv.bytes) c.in_ok-records.ensures c.if-sheet-lt-LEAST_SHEET.false)
 
 pub invariant_of-result : goal.invariant_of-result
 invariant_of-result c =
     let same : vec_items c.in_ok-bytes.bytes ≡ c.args.bytes.now = search rules in record {
       accepted = ∣ record {
         order = ap checked same ∙ c.in_ok-records.ensures;
-        planned = subst (λ (l : List Record). Planned (map entry_of l) c.in_ok-plan.plan) c.deref.ensures.value c.in_ok-plan.ensures.1;
-        small = c.in_ok-plan.ensures.2;
+        planned = subst (λ (l : List Record). Planned (map entry_of l) c.in_ok-plan.plan) c.deref.ensures.value c.in_ok-plan.ensures.scheduled.1;
+        small = c.in_ok-plan.ensures.scheduled.2;
       } ∣₁;
     }
 
 pub returns : goal.returns
 returns c =
     let same : vec_items c.in_ok-bytes.bytes ≡ c.args.bytes.now = search rules in
-    let planned = subst (λ (l : List Record). Planned (map entry_of l) c.in_ok-plan.plan) c.deref.ensures.value c.in_ok-plan.ensures.1 in (
+    let planned = subst (λ (l : List Record). Planned (map entry_of l) c.in_ok-plan.plan) c.deref.ensures.value c.in_ok-plan.ensures.scheduled.1 in (
       c.if-sheet-lt-LEAST_SHEET.false,
-      c.in_ok-plan.ensures.0,
-      plan_accepts c.args.bytes.now (entries_of c.in_ok-records.records) c.in_ok-plan.plan c.in_ok-records.ensures planned c.in_ok-plan.ensures.2,
+      search rules ∙ c.in_ok-plan.ensures.scheduled.0,
+      plan_accepts c.args.bytes.now (entries_of c.in_ok-records.records) c.in_ok-plan.plan c.in_ok-records.ensures planned c.in_ok-plan.ensures.scheduled.2,
       record { bytes_are = same; records_are = c.in_ok-records.ensures; counts_are = refl },
     )

@@ -10,28 +10,28 @@ invariant_of-graph c =
       fits = fits_of (map entry_of c.args.ordered.now.records.now) c.args.ordered.now.orderly _ _ _ (ap (λ n. n.channels) counts) (ap (λ n. n.streams) counts) (c.deref.ensures.value ∙ c.in_ok-edges.ensures);
     }
 
-pub returns-in_err-layout : goal.returns-in_err-layout
-returns-in_err-layout c =
+pub returns-in_err-layout-clause-scheduled : goal.returns-in_err-layout-clause-scheduled
+returns-in_err-layout-clause-scheduled c =
     let p = err_from_is_err_and c.from_residual-in_err-layout.result c.from_residual-in_err-layout.ensures.1 in
     let counts = c.of-counts.ensures in
     rw (p.1, p.2)
     (inl (blames_of (map entry_of c.args.ordered.now.records.now) c.args.ordered.now.orderly _ _ _ (ap (λ n. n.channels) counts) (ap (λ n. n.streams) counts)
-    (c.deref.ensures.value ∙ c.in_ok-edges.ensures) c.args.sheet.now c.weigh_walks.new.sheet c.in_err-layout.field-0.0 c.in_err-layout.ensures))
+    (c.deref.ensures.value ∙ c.in_ok-edges.ensures) c.args.sheet.now.entries.now c.weigh_walks.new.sheet.entries.now c.in_err-layout.field-0.0 c.in_err-layout.ensures.weighed))
 
-pub returns-then-plan-gt-MOST_SLOTS : goal.returns-then-plan-gt-MOST_SLOTS
-returns-then-plan-gt-MOST_SLOTS c =
+pub returns-then-plan-gt-MOST_SLOTS-clause-scheduled : goal.returns-then-plan-gt-MOST_SLOTS-clause-scheduled
+returns-then-plan-gt-MOST_SLOTS-clause-scheduled c =
     let rs : List Entry = map entry_of c.args.ordered.now.records.now in
     let counts = c.of-counts.ensures in
     let (kept, plan) = planned_of rs c.args.ordered.now.orderly _ _ _ (ap (λ n. n.channels) counts) (ap (λ n. n.streams) counts)
-    (c.deref.ensures.value ∙ c.in_ok-edges.ensures) c.args.sheet.now c.weigh_walks.new.sheet _ (ap (λ n. n.rules) counts)
-    c.in_ok-layout.layout c.lay_plan-plan.result c.in_ok-layout.ensures c.lay_plan-plan.ensures in
+    (c.deref.ensures.value ∙ c.in_ok-edges.ensures) c.args.sheet.now.entries.now c.weigh_walks.new.sheet.entries.now _ (ap (λ n. n.rules) counts)
+    c.in_ok-layout.layout c.lay_plan-plan.result c.in_ok-layout.ensures.weighed c.lay_plan-plan.ensures in
     inr (_, refl, kept, overfull rs c.lay_plan-plan.result plan c.if-plan-gt-MOST_SLOTS.true)
 
-pub returns : goal.returns
-returns c =
+pub returns-clause-scheduled : goal.returns-clause-scheduled
+returns-clause-scheduled c =
     let rs : List Entry = map entry_of c.args.ordered.now.records.now in
     let counts = c.of-counts.ensures in
     let (kept, plan) = planned_of rs c.args.ordered.now.orderly _ _ _ (ap (λ n. n.channels) counts) (ap (λ n. n.streams) counts)
-    (c.deref.ensures.value ∙ c.in_ok-edges.ensures) c.args.sheet.now c.weigh_walks.new.sheet _ (ap (λ n. n.rules) counts)
-    c.in_ok-layout.layout c.lay_plan-plan.result c.in_ok-layout.ensures c.lay_plan-plan.ensures in
+    (c.deref.ensures.value ∙ c.in_ok-edges.ensures) c.args.sheet.now.entries.now c.weigh_walks.new.sheet.entries.now _ (ap (λ n. n.rules) counts)
+    c.in_ok-layout.layout c.lay_plan-plan.result c.in_ok-layout.ensures.weighed c.lay_plan-plan.ensures in
     (kept, plan, c.if-plan-gt-MOST_SLOTS.false)
