@@ -4,10 +4,9 @@ use native.Mathlib.Decide.{dec_lt}
 use Rattle.std.specs.List.{range_with_len, AllWithin, HoldsAt}
 use Rattle.std.proofs.lemmas.List.FromFn.{get_or-range_with_len, length-range_with_len}
 use Rattle.walks.specs.declared.edge.Edge.{Edge}
-use Rattle.search.specs.declared.arrival.Target.{Target}
 use Rattle.search.specs.declared.row.Arrival.{Arrival}
 use Rattle.search.specs.Rows.{layer, alone, reaches}
-use Rattle.search.specs.Arrivals.{ring, Unreached, Reached, Missed, First, Open, Unclosed, Fewest}
+use Rattle.search.specs.Arrivals.{Aim, ring, Unreached, Reached, Missed, First, Open, Unclosed, Fewest}
 use Rattle.search.proofs.Rows.{reaches_less}
 
 -- ---- nodes
@@ -25,7 +24,7 @@ found_between row lo hi z (Some b) (here, i, l, is, before) =
     record { from = omega arith; below = omega (arith, length-range_with_len lo (hi - lo)); here = here }
 
 -- ---- lengths
-module _ (es : List Edge) (s : List (Option ℕ)) (t : Target) where
+module _ (es : List Edge) (s : List (Option ℕ)) (t : Aim) where
   pub missed_less : (k m : ℕ) → m ≤ k → Missed es s t k → Missed es s t m
   missed_less k m h none j l i = none j l (omega arith)
 
@@ -48,15 +47,15 @@ module _ (es : List Edge) (s : List (Option ℕ)) (t : Target) where
       before = none;
     }
 
-pub first_reached : (es : List Edge) (s : List (Option ℕ)) (t : Target) (limit : ℕ) (f : Arrival) → First es s t limit f →
+pub first_reached : (es : List Edge) (s : List (Option ℕ)) (t : Aim) (limit : ℕ) (f : Arrival) → First es s t limit f →
     reaches (get_or (layer es s f.length) f.node None) 0 ≡ true
 first_reached es s t limit f first = reaches_less (get_or (layer es s f.length) f.node None) 0 (64 * f.length + t.over) (omega arith) first.at.here
 
 -- ---- starts
 -- what holds at the row, the target and the limit of a start
-pub at_start : (P : List (Option ℕ) → Target → ℕ → Type 0) (s begins : List (Option ℕ)) (t comes : Target) (m k : ℕ) → s ≡ begins → t ≡ comes → m ≡ k → P s t m →
+pub at_start : (P : List (Option ℕ) → Aim → ℕ → Type 0) (s begins : List (Option ℕ)) (t comes : Aim) (m k : ℕ) → s ≡ begins → t ≡ comes → m ≡ k → P s t m →
     P begins comes k
-at_start P s begins t comes m k p q r h = subst (P begins comes) r (subst (λ (x : Target). P begins x m) q (subst (λ (x : List (Option ℕ)). P x t m) p h))
+at_start P s begins t comes m k p q r h = subst (P begins comes) r (subst (λ (x : Aim). P begins x m) q (subst (λ (x : List (Option ℕ)). P x t m) p h))
 
 module _ (es : List Edge) (lo n : ℕ) where
   -- no closed walk of 1 to limit edges was met from the starts below a

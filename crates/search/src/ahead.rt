@@ -3,9 +3,10 @@ ghost use Rattle.std.specs.Prelude.{◌≡◌, MatchOption};
 ghost use Rattle.walks.specs.Walks.{Falling, Settled, TellsAhead};
 ghost use Rattle.walks.specs.Edges.{graph as graph_of, told, Channel};
 
-use crate::arrival::{Target, first_arrival};
+use crate::arrival::first_arrival;
 use crate::listing::list_walk;
 use crate::row::Start;
+use crate::target::Target;
 use walks::graph::Graph;
 use walks::sheet::Sheet;
 

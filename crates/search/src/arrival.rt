@@ -1,45 +1,12 @@
 // The walk of the fewest edges that arrives at a target, by the rows.
 ghost use Rattle.std.specs.Prelude.{◌≡◌, ◌+◌, ◌≤◌, MatchOption};
 ghost use Rattle.search.specs.Rows.{reaches};
-ghost use Rattle.search.specs.Arrivals.{ring, outside, Unreached, Reached, Missed, First};
+ghost use Rattle.search.specs.declared.row.TheConstants.{MOST_EDGES};
+ghost use Rattle.search.specs.Arrivals.{aim, Unreached, Reached, Missed, First};
 
 use crate::row::{Arrival, Row, Start, step};
+use crate::target::Target;
 use walks::graph::Graph;
-
-// What a walk is to come to: a node from `first` on below `end`, with a weight of `over` or more.
-// Two numbers, since a range is not copied, and each length needs it anew.
-// Functions require the bounds of `end` and `over`, since `ring` and `outside` in specs make a target of any number.
-#[derive(Clone, Copy)]
-pub(crate) struct Target {
-    first: usize,
-    end: usize,
-    over: usize,
-}
-
-impl Target {
-    // The node itself, with a weight of 0 or more.
-    pub(crate) fn node(node: usize) -> Target
-        requires { node ≤ 64 }
-        ensures { result ≡ ring node }
-    {
-        Target {
-            first: node,
-            end: node + 1,
-            over: 0,
-        }
-    }
-
-    // Any channel, with a weight of more than 0.
-    pub(crate) fn channels(channels: usize) -> Target
-        ensures { result ≡ outside channels }
-    {
-        Target {
-            first: 0,
-            end: channels,
-            over: 1,
-        }
-    }
-}
 
 // Whether a weight comes up to `least`.
 fn reaches(weight: Option<u32>, least: usize) -> bool
@@ -63,10 +30,8 @@ pub(crate) fn first_arrival(
     target: Target,
     limit: usize,
 ) -> Option<Arrival>
-    requires few { limit ≤ 33 }
-    requires nodes { target.end ≤ 64 }
-    requires light { target.over ≤ 1 }
-    ensures { MatchOption result (Missed graph.now.edges.now start.row target limit) (First graph.now.edges.now start.row target limit) }
+    requires { limit ≤ MOST_EDGES }
+    ensures { MatchOption result (Missed graph.now.edges.now start.row (aim target) limit) (First graph.now.edges.now start.row (aim target) limit) }
 {
     let mut row = start.row;
     // The length is no index: what a walk must weigh depends on it.

@@ -4,9 +4,10 @@ ghost use Rattle.walks.specs.Walks.{Falling, TellsClosed};
 ghost use Rattle.walks.specs.Edges.{graph as graph_of, told};
 ghost use Rattle.search.specs.Arrivals.{Unclosed, Fewest};
 
-use crate::arrival::{Target, first_arrival};
+use crate::arrival::first_arrival;
 use crate::listing::list_walk;
 use crate::row::{Arrival, Start};
+use crate::target::Target;
 use walks::graph::Graph;
 use walks::sheet::Sheet;
 

@@ -6,3 +6,4 @@ mod arrival;
 pub mod closed;
 mod listing;
 mod row;
+mod target;

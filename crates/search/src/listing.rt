@@ -3,19 +3,23 @@ ghost use Rattle.std.specs.Prelude.{◌≡◌, ◌<◌, ◌≤◌, true, length,
 ghost use Rattle.std.specs.List.{AllByRecursion};
 ghost use Rattle.std.specs.Option.{option_copied};
 ghost use Rattle.walks.specs.Edges.{Bounded};
+ghost use Rattle.search.specs.declared.row.TheConstants.{MOST_WEIGHT};
 ghost use Rattle.search.specs.Rows.{Low, layer, into, reaches};
 ghost use Rattle.search.specs.Listings.{Layers, Listed};
 
-use crate::row::{Arrival, Row, Start, lift, step};
+use crate::row::{Arrival, MOST_EDGES, Row, Start, lift, step};
 use walks::edge::{Edge, SheetEntry};
 use walks::graph::Graph;
 
+// How many rows there are at most: of walks of 0 edges, and of each length up to the most.
+const ROWS: usize = MOST_EDGES + 1;
+
 // The rows of walks of 0 edges to as many as the arrival's.
-fn layers(graph: &Graph, start: Start, arrival: Arrival) -> [Row; 34]
+fn layers(graph: &Graph, start: Start, arrival: Arrival) -> [Row; ROWS]
     ensures { Layers graph.now.edges.now start.row arrival.length result }
 {
     let mut row = start.row;
-    let mut rows = [row; 34];
+    let mut rows = [row; ROWS];
     for next in &mut rows[1..=arrival.length] {
         row = step(graph, &row);
         *next = row;
@@ -28,7 +32,7 @@ fn leads_into(from: &Row, edge: &Edge, node: usize, left: u32) -> bool
     // Definitions make an edge of any reference, so the type of an edge can't carry its bound.
     // Nor can the type of rows, whose bound a step raises.
     requires bounded { Bounded edge.now }
-    requires low { AllByRecursion (Low 8192) from.now }
+    requires low { AllByRecursion (Low MOST_WEIGHT) from.now }
     ensures { result ≡ into from.now node left edge.now }
 {
     edge.read == node && from[edge.reader].is_some_and(|weight| weight + lift(edge) == left)
@@ -37,7 +41,7 @@ fn leads_into(from: &Row, edge: &Edge, node: usize, left: u32) -> bool
 // The first edge that leads from the row to the weight `left` at `node`.
 fn find_into<'a>(graph: &'a Graph, from: &Row, node: usize, left: u32) -> Option<&'a Edge>
     // A step raises the bound, so its result would not have it.
-    requires { AllByRecursion (Low 8192) from.now }
+    requires { AllByRecursion (Low MOST_WEIGHT) from.now }
     ensures { option_copied result ≡ find (into from.now node left) graph.now.edges.now }
 {
     graph
@@ -55,7 +59,7 @@ pub(crate) fn list_walk(graph: &Graph, start: Start, arrival: Arrival, sheet: &m
     let rows = layers(graph, start, arrival);
     let mut node = arrival.node;
     let mut left = rows[arrival.length][node].unwrap();
-    // By number, since a proof learns nothing of what is written through an adapter of `iter_mut`.
+    // By number, since `iter_mut` under `rev` or `zip` leaves a proof the sheet's length alone, and only plain or under `enumerate` its entries.
     for k in (0..arrival.length).rev() {
         let edge = find_into(graph, &rows[k], node, left).unwrap();
         sheet[k] = edge.entry;

@@ -2,14 +2,21 @@
 ghost use Rattle.std.specs.Prelude.{◌≡◌, ◌<◌, ◌≤◌};
 ghost use Rattle.std.specs.List.{AllByRecursion};
 ghost use Rattle.walks.specs.Edges.{Bounded};
+ghost use Rattle.search.specs.declared.row.TheConstants.{MOST_EDGES, MOST_WEIGHT};
 ghost use Rattle.search.specs.Rows.{lift, Low, Starts-prop, extended, stepped, alone, everywhere};
 
 use walks::edge::Edge;
 use walks::graph::{Graph, NODES};
 
+// How many edges a walk has at most that comes to no node twice: one from each stream and one from a rule.
+pub(crate) const MOST_EDGES: usize = 33;
+
+// What stands in a row at most before a step.
+const MOST_WEIGHT: u32 = 8192;
+
 // By node; None where no walk ends. An array, since a search must not fail for want of memory.
 // Its numbers carry no bound in their type, since a step raises the bound of a row:
-// what 33 edges weigh, 127 each at most once lifted, stays below 8192.
+// what so many edges weigh, 127 each at most once lifted, stays below the most.
 pub(crate) type Row = [Option<u32>; NODES];
 
 // What an edge weighs, and 64, so that it is never less than 0.
@@ -26,7 +33,7 @@ fn extend(from: &Row, to: &mut Row, edge: &Edge)
     // Definitions make an edge of any reference, so the type of an edge can't carry its bound.
     // Nor can the type of rows, whose bound a step raises.
     requires bounded { Bounded edge.now }
-    requires low { AllByRecursion (Low 8192) from.now }
+    requires low { AllByRecursion (Low MOST_WEIGHT) from.now }
     ensures { to.new ≡ extended from.now to.old edge.now }
 {
     if let Some(weight) = from[edge.reader] {
@@ -43,7 +50,7 @@ fn extend(from: &Row, to: &mut Row, edge: &Edge)
 // The row of the walks that have one edge more.
 pub(crate) fn step(graph: &Graph, from: &Row) -> Row
     // A step raises the bound, so its result would not have it.
-    requires { AllByRecursion (Low 8192) from.now }
+    requires { AllByRecursion (Low MOST_WEIGHT) from.now }
     ensures { result ≡ stepped graph.now.edges.now from.now }
 {
     let mut to = [None; NODES];
@@ -87,5 +94,5 @@ pub(crate) struct Arrival {
     pub(crate) node: usize,
     pub(crate) length: usize,
     pub(crate) ghost within: { node < 64 },
-    pub(crate) ghost short: { length ≤ 33 },
+    pub(crate) ghost short: { length ≤ MOST_EDGES },
 }

@@ -1,16 +1,11 @@
-use Rattle.std.proofs.Common.{◌-◌, Some, ap, arith}
-use Rattle.search.specs.declared.arrival.Target.{Target}
+use Rattle.std.proofs.Common.{◌-◌, Some, arith}
 use Rattle.search.specs.Arrivals.{Missed, First}
 use Rattle.search.proofs.Searches.{at_start, kept_same, kept_open, kept_first, kept_all}
 use Rattle.search.proofs.closed.least_closed.Goals.{in-Some, in_default}
 use Rattle.search.proofs.closed.least_closed.Goals as goal
 
 pub first_arrival-requires : goal.first_arrival-requires
-first_arrival-requires c = record {
-  few = omega (arith, c.min-most.ensures, c.loop-node.invariant.within);
-  nodes = omega (arith, ap (λ (t : Target). t.end) c.node.ensures);
-  light = omega (arith, ap (λ (t : Target). t.over) c.node.ensures);
-}
+first_arrival-requires c = omega (arith, c.min-most.ensures, c.loop-node.invariant.within)
 
 pub loop-node-preserved : goal.loop-node-preserved
 loop-node-preserved c = elim c.match-first_arrival.branch [
