@@ -1,5 +1,5 @@
 -- The first table, which has no records, is in order. Assumes nothing.
-use Rattle.std.proofs.Common.{◌≡◌, ℕ, List, [], ◌∷◌, Ok, sym, refl, ap, subst, arith}
+use Rattle.std.proofs.Common.{◌≡◌, ℕ, List, [], ◌∷◌, length, Ok, sym, refl, ap, subst, arith}
 use Rattle.std.proofs.lemmas.Int.{ints}
 use Rattle.schedule.specs.declared.plan.Counts.{Counts}
 use Rattle.schedule.specs.declared.plan.Plan.{Plan}
@@ -23,8 +23,8 @@ first_settled : Settled (graph []) IsChannel
 first_settled a b [] c p = omega (arith, ints)
 first_settled a b (x ∷ w) c p = absurd p.1
 
-pub first_accepted : (bytes : List ℕ) (rs : List Entry) (p : Plan) → bytes ≡ 1 ∷ [] → rs ≡ [] → p.counts ≡ counted [] 0 → Accepted bytes rs p
-first_accepted bytes rs p b r e =
+pub first_accepted : (bytes : List ℕ) (rs : List Entry) (p : Plan) → bytes ≡ 1 ∷ [] → rs ≡ [] → p.counts ≡ counted [] 0 → p.order.items ≡ [] → p.rings.items ≡ [] → Accepted bytes rs p
+first_accepted bytes rs p b r e none no_rings =
     subst (λ (x : List ℕ). Accepted x rs p) (sym b) (subst (λ (x : List Entry). Accepted (1 ∷ []) x p) (sym r) (record {
       order = first_order;
       planned = record {
@@ -33,7 +33,8 @@ first_accepted bytes rs p b r e =
         counts = e;
         measured = record { leads = λ s h. absurd (omega arith); lengths = λ q h. absurd (omega arith) };
         bases = λ q h. absurd (omega arith);
-        order = record { every = λ s h. absurd (omega arith); within = λ i h. absurd (omega arith); before = λ r m. absurd m };
+        rings = ap length no_rings;
+        order = record { long = ap length none; every = λ s h. absurd (omega arith); within = λ i h. absurd (omega arith); before = λ r m. absurd m };
       };
       small = omega (arith, ap (λ c. c.slots) e);
     }))

@@ -4,11 +4,12 @@ ghost use Rattle.acceptance.specs.Checking.{Admits, Answers, First, Decided};
 
 use crate::rejection::Rejection;
 use crate::table::Table;
+use arrayvec::ArrayVec;
 use faults::cause::Cause;
 use faults::fault::Layer;
 use faults::stop::Stop;
 use schedule::ordered::OrderedRecords;
-use schedule::plan::{Counts, Plan, Ring, make_plan};
+use schedule::plan::{Counts, Plan, make_plan};
 use std::alloc::{AllocError, Global};
 use tables::reading::read_checked;
 use walks::edge::SheetEntry;
@@ -43,8 +44,8 @@ impl Table {
         let plan = Plan {
             counts: Counts::default(),
             leads: [0; NODES],
-            order: [0; 32],
-            rings: [Ring::default(); 48],
+            order: ArrayVec::new(),
+            rings: ArrayVec::new(),
         };
         let records = Vec::new(alloc);
         Ok(Table {

@@ -1,5 +1,5 @@
 -- What a layout says: leads and ring lengths of all nodes, and an order of the streams. Assumes nothing.
-use Rattle.std.specs.Prelude.{◌≡◌, ℕ, ◌+◌, ◌<◌, List, ℤ, pos, slice_index}
+use Rattle.std.specs.Prelude.{◌≡◌, ℕ, ◌+◌, ◌<◌, List, length, ℤ, pos, slice_index}
 use Rattle.walks.specs.declared.edge.Edge.{Edge}
 use Rattle.walks.specs.Walks.{In, Falling, Lead, Newest, Ring}
 use Rattle.walks.specs.Edges.{graph}
@@ -9,8 +9,9 @@ use Rattle.layout.specs.declared.layout.Layout.{Layout}
 abbrev pub lead_at : List ℕ → ℕ → ℤ
 lead_at leads s = pos (slice_index leads s)
 
--- every stream has a place, and what is read at its newest index comes before its reader; streams are the nodes from `channels` on
+-- each stream once, and what is read at its newest index comes before its reader; streams are the nodes from `channels` on
 pub record Ordered (channels streams : ℕ) (es : List Edge) (leads order : List ℕ) : Type 0 where
+  pub long : length order ≡ streams
   pub every : (s : ℕ) → s < streams → (i : ℕ) × (i < streams) × (slice_index order i ≡ s)
   pub stream : (i : ℕ) → i < streams → slice_index order i < streams
   pub before : (e : Edge) → In e es → Newest (graph es) (lead_at leads) e → (i j : ℕ) → i < streams → j < streams →
@@ -21,4 +22,4 @@ pub record Laid (channels streams : ℕ) (es : List Edge) (l : Layout) : Type 0 
   pub falls : Falling (graph es)
   pub leads : (s : ℕ) → s < 64 → Lead (graph es) s (lead_at l.leads s)
   pub rings : (q : ℕ) → q < 64 → Ring (graph es) (lead_at l.leads) q (slice_index l.lengths q)
-  pub order : Ordered channels streams es l.leads l.order
+  pub order : Ordered channels streams es l.leads l.order.items

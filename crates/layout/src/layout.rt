@@ -4,22 +4,22 @@ ghost use Rattle.walks.specs.Walks.{Falling};
 ghost use Rattle.walks.specs.Edges.{graph as graph_of};
 ghost use Rattle.layout.specs.Layouts.{Laid};
 
+use arrayvec::ArrayVec;
 use crate::heights::resting_heights;
 use crate::order::evaluation_order;
 use crate::rings::{leads_of, ring_lengths};
-use walks::graph::{Graph, NODES};
+use walks::graph::{Graph, NODES, STREAMS};
 
 // How values are laid out: for each node its lead and its ring's length, and the streams in an order of evaluation.
-// Arrays, since a layout must not fail for want of memory.
-#[derive(Clone, Copy)]
+// Arrays and a list in place, since a layout must not fail for want of memory.
+#[derive(Drop)]
 pub struct Layout {
     // For each node the greatest weight of any walk that ends there.
     pub leads: [u32; NODES],
     // For each node the length of its ring.
     pub lengths: [u32; NODES],
     // The streams by number: what is read at its newest index comes before its reader.
-    // Those past the number of streams mean nothing.
-    pub order: [usize; 32],
+    pub order: ArrayVec<usize, STREAMS>,
 }
 
 // The layout of the nodes; none where a closed walk weighs 0 or more.

@@ -1,4 +1,3 @@
-mod Filling
 mod Making
 mod Describing
 pub mod Standing

@@ -81,7 +81,6 @@ module _ (rs : List Entry) (o : Orderly rs) where
 
   near : (r : Reference) → Stands rs r → Near (counts_of rs) r
   near r s = record {
-    few = (omega (arith, o.few Channel), omega (arith, o.few Stream));
     numbers = ((node_kind r.reader.kind r.reader.number s.reader).1, (node_kind r.read.kind r.read.number s.read).1);
     reader = (node_kind r.reader.kind r.reader.number s.reader).0;
     read = (node_kind r.read.kind r.read.number s.read).0;

@@ -1,5 +1,5 @@
 -- From what is said of edges to what is said of a table's records. Assumes nothing.
-use Rattle.std.proofs.Common.{◌≡◌, ℕ, ◌+◌, ◌<◌, List, [], get_or, ℤ, ◌+ℤ◌, Ok, Err, Result, sym, ap, ◌∙◌, subst, inl, inr, arith}
+use Rattle.std.proofs.Common.{◌≡◌, ℕ, ◌+◌, ◌<◌, List, [], length, get_or, ℤ, ◌+ℤ◌, Ok, Err, Result, sym, ap, ◌∙◌, subst, inl, inr, arith}
 use Rattle.faults.specs.declared.cause.Cause.{Cause}
 use Rattle.syntax.specs.declared.record.Kind.TheVariants.{Channel, Stream, Rule}
 use Rattle.syntax.specs.Entries.{Entry, count}
@@ -11,10 +11,13 @@ use Rattle.walks.specs.Edges as plain
 use Rattle.walks.specs.Edges.{Fits}
 use Rattle.layout.specs.declared.layout.Layout.{Layout}
 use Rattle.layout.specs.Layouts as layouts
+use Rattle.arrayvec.specs.ArrayVec.{ArrayVec}
+use Rattle.std.proofs.lemmas.List.FromFn.{length-map-range_with_len, get_or-map-range_with_len}
 use Rattle.schedule.specs.declared.plan.Plan.{Plan}
+use Rattle.schedule.specs.declared.plan.Ring.{Ring as Slots}
 use Rattle.schedule.specs.Graphs.{graph, told, IsChannel}
 use Rattle.schedule.specs.Edges.{Orderly, node, id_at, edge, edges}
-use Rattle.schedule.specs.Plans.{ring_count, lead_by, Measured, slots_before, lead_in, length_in, ring_in, Ordered, Planned}
+use Rattle.schedule.specs.Plans.{ring_count, lead_by, Measured, slots_before, lead_in, length_in, no_ring, ring_in, Ordered, Planned}
 use Rattle.schedule.specs.Placements.{ring_at, Places}
 use Rattle.schedule.specs.Walking.{BlamesWalk, Weighed}
 use Rattle.schedule.specs.Scheduling.{Overfull}
@@ -33,9 +36,10 @@ module _ (rs : List Entry) (o : Orderly rs) where
     abbrev lead_of : ℕ → ℕ
     lead_of s = get_or l.leads (count Channel rs + s) 0
 
-    ordered : Ordered rs lead_of l.order
+    ordered : Ordered rs lead_of l.order.items
     unfolding node
     ordered = record {
+      long = laid.order.long;
       every = laid.order.every;
       within = laid.order.stream;
       before = λ r m newest i j li lj read reader.
@@ -52,7 +56,8 @@ module _ (rs : List Entry) (o : Orderly rs) where
     planned : (channels streams rules : ℕ) (p : Plan) → channels ≡ count Channel rs → streams ≡ count Stream rs → rules ≡ count Rule rs → Places l channels streams rules p → Planned rs p
     planned channels streams rules p ec es er places =
         let some : channels + streams ≡ ring_count rs = λ i. ec i + es i in
-        let rings : (q : ℕ) → q < ring_count rs → ring_in p q ≡ ring_at l.lengths q = λ q h. places.rings q (omega arith) in
+        let rings : (q : ℕ) → q < ring_count rs → ring_in p q ≡ ring_at l.lengths q = λ q h.
+        ap (λ (x : List Slots). get_or x q no_ring) places.rings ∙ get_or-map-range_with_len (ring_at l.lengths) 0 (channels + streams) q q no_ring (omega arith) (omega arith) in
         let long : (q : ℕ) → q < ring_count rs → length_in p q ≡ get_or l.lengths q 0 = λ q h. ap (λ r. r.length) (rings q h) in
         let slots : slots_before (λ j. get_or l.lengths j 0) (channels + streams) ≡ slots_before (length_in p) (ring_count rs) =
         ap (slots_before (λ j. get_or l.lengths j 0)) some ∙ sym (slots_same (length_in p) (λ j. get_or l.lengths j 0) (ring_count rs) long) in
@@ -66,7 +71,8 @@ module _ (rs : List Entry) (o : Orderly rs) where
             lengths = λ q h. subst (λ (n : ℕ). Ring (graph rs) (lead_by lead_of) (id_at rs q) n) (sym (long q h)) (measures.lengths q h);
           });
           bases = λ q h. ap (λ r. r.base) (rings q h) ∙ slots_same (λ j. get_or l.lengths j 0) (length_in p) q (λ j lt. sym (long j (omega arith)));
-          order = subst (λ (f : ℕ → ℕ). Ordered rs f p.order) (sym lead) (subst (λ (x : List ℕ). Ordered rs lead_of x) (sym places.order) ordered);
+          rings = ap length places.rings ∙ length-map-range_with_len (ring_at l.lengths) 0 (channels + streams) ∙ some;
+          order = subst (λ (f : ℕ → ℕ). Ordered rs f p.order.items) (sym lead) (subst (λ (x : ArrayVec ℕ). Ordered rs lead_of x.items) (sym places.order) ordered);
         }
       where
         channels_are : p.counts.records.channels ≡ count Channel rs

@@ -72,19 +72,18 @@ no_node = record { number = 0; opening = 0 }
 
 -- what is known of the nodes of a table
 pub record Describes (rs : List Entry) (ns : Nodes) : Type 0 where
-  pub counts : ns.counts ≡ counts_of rs
+  pub counts : ns.numbering.counts ≡ counts_of rs
   pub told : (m : ℕ) → m < 64 → slice_index_or ns.told m no_node ≡ described rs (id_at rs m)
 
 -- both ends of a reference are nodes
 pub record Near (n : Counts) (r : Reference) : Type 0 where
-  pub few : (n.channels < 64) × (n.streams < 64)
   pub numbers : (r.reader.number < 64) × (r.read.number < 64)
   pub reader : node_by n.channels n.streams r.reader.kind r.reader.number < 64
   pub read : node_by n.channels n.streams r.read.kind r.read.number < 64
 
 -- a reference as an edge, by what is known of the nodes
 abbrev pub node_in : Nodes → Id → ℕ
-node_in ns id = node_by ns.counts.channels ns.counts.streams id.kind id.number
+node_in ns id = node_by ns.numbering.counts.channels ns.numbering.counts.streams id.kind id.number
 
 abbrev pub told_in : Nodes → Id → Node
 told_in ns id = slice_index_or ns.told (node_in ns id) no_node

@@ -1,17 +1,22 @@
 -- Rings that lie one after another. Assumes nothing.
-use Rattle.std.specs.Prelude.{◌≡◌, ℕ, ◌+◌, ◌<◌, List, slice_index, slice_index_or}
+use Rattle.std.specs.Prelude.{◌≡◌, ℕ, ◌+◌, List, map, slice_index}
+use Rattle.std.specs.List.{range_with_len}
 use Rattle.layout.specs.declared.layout.Layout.{Layout}
 use Rattle.schedule.specs.declared.plan.Placed.{Placed}
 use Rattle.schedule.specs.declared.plan.Plan.{Plan}
 use Rattle.schedule.specs.declared.plan.Ring.{Ring}
-use Rattle.schedule.specs.Plans.{slots_before, no_ring}
+use Rattle.schedule.specs.Plans.{slots_before}
 
 -- the q-th ring of these lengths begins where those before it end
 abbrev pub ring_at : List ℕ → ℕ → Ring
 ring_at lengths q = record { base = slots_before (λ j. slice_index lengths j) q; length = slice_index lengths q }
 
+-- the first so many
+abbrev pub rings_of : List ℕ → ℕ → List Ring
+rings_of lengths count = map (ring_at lengths) (range_with_len 0 count)
+
 pub record Consecutive (lengths : List ℕ) (count : ℕ) (p : Placed) : Type 0 where
-  pub rings : (q : ℕ) → q < count → slice_index_or p.rings q no_ring ≡ ring_at lengths q
+  pub rings : p.rings.items ≡ rings_of lengths count
   pub slots : p.slots ≡ slots_before (λ j. slice_index lengths j) count
 
 -- a plan by a layout, with rings that lie one after another
@@ -19,4 +24,4 @@ pub record Places (l : Layout) (channels streams rules : ℕ) (p : Plan) : Type 
   pub counts : p.counts ≡ record { records = record { channels = channels; streams = streams; rules = rules }; slots = slots_before (λ j. slice_index l.lengths j) (channels + streams) }
   pub leads : p.leads ≡ l.leads
   pub order : p.order ≡ l.order
-  pub rings : (q : ℕ) → q < channels + streams → slice_index_or p.rings q no_ring ≡ ring_at l.lengths q
+  pub rings : p.rings.items ≡ rings_of l.lengths (channels + streams)

@@ -1,5 +1,5 @@
 -- Leads, rings and slots of a table, and what its plan says of them. Assumes nothing.
-use Rattle.std.specs.Prelude.{◌≡◌, ℕ, ◌+◌, ◌<◌, List, [], map, ℤ, pos, sum, slice_index, slice_index_or}
+use Rattle.std.specs.Prelude.{◌≡◌, ℕ, ◌+◌, ◌<◌, List, [], map, length, ℤ, pos, sum, slice_index, slice_index_or}
 use Rattle.std.specs.List.{range_with_len}
 use Rattle.syntax.specs.declared.record.Kind.{Kind}
 use Rattle.syntax.specs.declared.record.Kind.TheVariants.{Channel, Stream, Rule}
@@ -52,13 +52,14 @@ abbrev pub no_ring : Slots
 no_ring = record { base = 0; length = 0 }
 
 abbrev pub ring_in : Plan → ℕ → Slots
-ring_in p q = slice_index_or p.rings q no_ring
+ring_in p q = slice_index_or p.rings.items q no_ring
 
 abbrev pub length_in : Plan → ℕ → ℕ
 length_in p q = (ring_in p q).length
 
--- each of so many streams has one place in the order, and a stream that is read at its newest index comes before its reader
+-- the order has each stream once, and a stream that is read at its newest index comes before its reader
 pub record Ordered (rs : List Entry) (lead : ℕ → ℕ) (order : List ℕ) : Type 0 where
+  pub long : length order ≡ count Stream rs
   pub every : (s : ℕ) → s < count Stream rs → (i : ℕ) × (i < count Stream rs) × (slice_index order i ≡ s)
   pub within : (i : ℕ) → i < count Stream rs → slice_index order i < count Stream rs
   pub before : (r : Reference) → In r (references [] rs) → Newest (graph rs) (lead_by lead) r → (i j : ℕ) → i < count Stream rs → j < count Stream rs →
@@ -75,4 +76,5 @@ pub record Planned (rs : List Entry) (p : Plan) : Type 0 where
   pub counts : p.counts ≡ counted rs (slots_before (length_in p) (ring_count rs))
   pub measured : Measured rs (lead_in p) (length_in p)
   pub bases : (q : ℕ) → q < ring_count rs → (ring_in p q).base ≡ slots_before (length_in p) q
-  pub order : Ordered rs (lead_in p) p.order
+  pub rings : length p.rings.items ≡ ring_count rs
+  pub order : Ordered rs (lead_in p) p.order.items

@@ -4,7 +4,7 @@ ghost use Rattle.std.specs.List.{AllByRecursion};
 ghost use Rattle.syntax.specs.Entries.{entry_of};
 ghost use Rattle.schedule.specs.Edges.{Near, edge_by, edges};
 
-use crate::nodes::{Nodes, node_of};
+use crate::nodes::Nodes;
 use crate::ordered::OrderedRecords;
 use references::listing::list_references;
 use references::reference::Reference;
@@ -13,11 +13,11 @@ use walks::edge::{Edge, SheetEntry};
 
 // A reference as an edge.
 fn make_edge(nodes: &Nodes, r: &Reference) -> Edge
-    requires { Near nodes.now.counts r.now }
+    requires { Near nodes.now.numbering.counts r.now }
     ensures { result ≡ edge_by nodes.now r.now }
 {
-    let reader = node_of(nodes.counts, r.reader);
-    let read = node_of(nodes.counts, r.read);
+    let reader = nodes.numbering.node(r.reader);
+    let read = nodes.numbering.node(r.read);
     let entry = SheetEntry {
         reader: nodes.told[reader].number,
         read: nodes.told[read].number,
@@ -37,7 +37,7 @@ fn make_edges(
     references: &[Reference],
     nodes: &Nodes,
 ) -> Result<Vec<Edge>, AllocError>
-    requires { AllByRecursion (Near nodes.now.counts) references.now }
+    requires { AllByRecursion (Near nodes.now.numbering.counts) references.now }
     ensures { IfOk result (λ v. v.items ≡ map (edge_by nodes.now) references.now) }
 {
     references

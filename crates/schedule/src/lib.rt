@@ -3,6 +3,7 @@
 
 mod edges;
 mod nodes;
+mod numbering;
 pub mod ordered;
 pub mod plan;
 mod walking;

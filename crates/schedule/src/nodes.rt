@@ -1,14 +1,15 @@
-// Records as the nodes of a graph: the channels by number, then the streams, then the rules.
-ghost use Rattle.std.specs.Prelude.{◌≡◌, ◌<◌, map, Some};
+// What edges tell of the nodes of a table.
+ghost use Rattle.std.specs.Prelude.{◌≡◌, map, Some};
 ghost use Rattle.syntax.specs.Entries.{entry_of};
 ghost use Rattle.schedule.specs.Graphs.{opening_count};
-ghost use Rattle.schedule.specs.Edges.{node_by, id_by, described, Describes};
+ghost use Rattle.schedule.specs.Edges.{described, Describes};
 
+use crate::numbering::Numbering;
 use crate::ordered::OrderedRecords;
 use references::numbering::record_number;
 use references::reference::Id;
 use std::array;
-use syntax::record::{Counts, Kind, Record};
+use syntax::record::Record;
 use walks::graph::NODES;
 
 // What an edge tells of a record at either end.
@@ -20,48 +21,12 @@ pub(crate) struct Node {
     pub(crate) opening: u8,
 }
 
-// The nodes of a table: the counts by which they are numbered, and what an edge tells of each, looked up once.
+// The nodes of a table: how they are numbered, and what an edge tells of each, looked up once.
 // An array by node: every node has its place from the start, and none is added.
 #[derive(Clone, Copy)]
 pub(crate) struct Nodes {
-    pub(crate) counts: Counts,
+    pub(crate) numbering: Numbering,
     pub(crate) told: [Node; NODES],
-}
-
-// The node of a record.
-pub(crate) fn node_of(counts: Counts, id: Id) -> usize
-    requires { (id.number < 64) × ((counts.channels < 64) × (counts.streams < 64)) }
-    ensures { result ≡ node_by counts.channels counts.streams id.kind id.number }
-{
-    match id.kind {
-        Kind::Channel => id.number,
-        Kind::Stream => counts.channels + id.number,
-        Kind::Rule => counts.channels + counts.streams + id.number,
-    }
-}
-
-// The record of a node.
-fn id_of(counts: Counts, node: usize) -> Id
-    requires { (counts.channels < 64) × (counts.streams < 64) }
-    ensures { result ≡ id_by counts.channels counts.streams node }
-{
-    let rules = counts.channels + counts.streams;
-    if node < counts.channels {
-        Id {
-            kind: Kind::Channel,
-            number: node,
-        }
-    } else if node < rules {
-        Id {
-            kind: Kind::Stream,
-            number: node - counts.channels,
-        }
-    } else {
-        Id {
-            kind: Kind::Rule,
-            number: node - rules,
-        }
-    }
 }
 
 // How many opening values a record has.
@@ -93,8 +58,8 @@ impl Nodes {
     pub(crate) fn new(ordered: &OrderedRecords<'_>) -> Nodes
         ensures { Describes (map entry_of ordered.now.records.now) result }
     {
-        let counts = Counts::of(ordered.records);
-        let told = array::from_fn(|m| describe(ordered, id_of(counts, m)));
-        Nodes { counts, told }
+        let numbering = Numbering::of(ordered);
+        let told = array::from_fn(|m| describe(ordered, numbering.id(m)));
+        Nodes { numbering, told }
     }
 }

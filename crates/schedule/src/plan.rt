@@ -8,13 +8,14 @@ ghost use Rattle.schedule.specs.Lines.{size_text};
 use crate::edges::list_edges;
 use crate::ordered::OrderedRecords;
 use crate::walking::weigh_walks;
+use arrayvec::ArrayVec;
 use faults::cause::Cause;
 use layout::layout::Layout;
 use std::alloc::Global;
 use std::fmt;
 use syntax::record;
 use faults::stop::Stop;
-use walks::graph::{Graph, NODES};
+use walks::graph::{Graph, NODES, RINGS, STREAMS};
 use walks::sheet::Sheet;
 
 // How many slots the rings of a table take at most.
@@ -45,21 +46,20 @@ pub struct Ring {
 }
 
 // The plan of a table. Rings are numbered as records are: the channels first, then the streams.
-// Arrays, since a plan is plain data that is copied whole; how many of the order and of the rings count stands in the counts.
-#[derive(Clone, Copy)]
+#[derive(Drop)]
 pub struct Plan {
     pub counts: Counts,
     // The lead of each record that has a ring, by the ring's number.
     pub leads: [u32; NODES],
     // The streams by number, in an order of evaluation.
-    pub order: [usize; 32],
-    pub rings: [Ring; 48],
+    pub order: ArrayVec<usize, STREAMS>,
+    pub rings: ArrayVec<Ring, RINGS>,
 }
 
 // Where rings lie, one after another, and how many slots they take together.
-#[derive(Clone, Copy)]
+#[derive(Drop)]
 pub(crate) struct Placed {
-    pub(crate) rings: [Ring; 48],
+    pub(crate) rings: ArrayVec<Ring, RINGS>,
     pub(crate) slots: usize,
 }
 
@@ -68,25 +68,29 @@ fn place_rings(lengths: &[u32; NODES], count: usize) -> Placed
     requires { count ≤ 48 }
     ensures { Consecutive lengths.now count result }
 {
-    let mut rings = [Ring::default(); 48];
+    let mut rings = ArrayVec::new();
     let mut slots = 0;
-    // By number, since a proof learns nothing of what is written through a zip.
-    for (q, ring) in rings[..count].iter_mut().enumerate() {
-        let length = lengths[q] as usize;
-        *ring = Ring {
+    for length in &lengths[..count] {
+        let length = *length as usize;
+        rings.push(Ring {
             base: slots,
             length,
-        };
+        });
         slots += length;
     }
     Placed { rings, slots }
 }
 
 // The plan that a layout of a graph gives, with so many rules.
-fn lay_plan(layout: &Layout, graph: &Graph, rules: usize) -> Plan
-    ensures { Places layout.now graph.now.channels graph.now.streams rules result }
+fn lay_plan(layout: Layout, graph: &Graph, rules: usize) -> Plan
+    ensures { Places layout graph.now.channels graph.now.streams rules result }
 {
-    let Placed { rings, slots } = place_rings(&layout.lengths, graph.channels + graph.streams);
+    let Layout {
+        leads,
+        lengths,
+        order,
+    } = layout;
+    let Placed { rings, slots } = place_rings(&lengths, graph.channels + graph.streams);
     Plan {
         counts: Counts {
             records: record::Counts {
@@ -96,8 +100,8 @@ fn lay_plan(layout: &Layout, graph: &Graph, rules: usize) -> Plan
             },
             slots,
         },
-        leads: layout.leads,
-        order: layout.order,
+        leads,
+        order,
         rings,
     }
 }
@@ -119,7 +123,7 @@ pub fn make_plan(
         edges: &edges,
     };
     let layout = weigh_walks(&graph, sheet)?;
-    let plan = lay_plan(&layout, &graph, counts.rules);
+    let plan = lay_plan(layout, &graph, counts.rules);
     if plan.counts.slots > MOST_SLOTS {
         return Err(Stop::Refused(Cause::Slots(plan.counts.slots)));
     }

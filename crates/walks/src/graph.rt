@@ -3,8 +3,16 @@ ghost use Rattle.walks.specs.Edges.{Fits, Fits-prop};
 
 use crate::edge::Edge;
 
-// How many nodes the largest graph has: 16 channels, 32 streams and 16 rules.
-pub const NODES: usize = 64;
+// How many channels, streams and rules the largest graph has.
+pub const CHANNELS: usize = 16;
+pub const STREAMS: usize = 32;
+pub const RULES: usize = 16;
+
+// How many rings: one for each channel and each stream.
+pub const RINGS: usize = CHANNELS + STREAMS;
+
+// How many nodes.
+pub const NODES: usize = RINGS + RULES;
 
 // The references of a table as the edges of a graph. No channel reads, no rule is read, and there are at most 16 channels and 32 streams.
 #[derive(Clone, Copy)]

@@ -9,8 +9,8 @@ use Rattle.schedule.proofs.edges.list_edges.Goals as goal
 pub make_edges-requires : goal.make_edges-requires
 make_edges-requires c =
     let rs : List Entry = map entry_of c.args.ordered.now.records.now in
-    subst (AllByRecursion (Near c.new.result.counts)) (sym (c.deref.ensures.value ∙ c.in_ok-references.ensures))
-    (all_near rs c.args.ordered.now.orderly c.new.result.counts c.new.ensures.counts)
+    subst (AllByRecursion (Near c.new.result.numbering.counts)) (sym (c.deref.ensures.value ∙ c.in_ok-references.ensures))
+    (all_near rs c.args.ordered.now.orderly c.new.result.numbering.counts c.new.ensures.counts)
 
 pub returns : goal.returns
 returns c =

@@ -1,13 +1,11 @@
-use Rattle.std.proofs.Common.{◌≡◌, ◌*◌, ◌≤◌, length, get_or}
-use Rattle.schedule.specs.Placements.{ring_at}
-use Rattle.schedule.specs.Plans.{slots_before, no_ring}
-use Rattle.schedule.proofs.Filling.{Filled}
+use Rattle.std.proofs.Common.{◌≡◌, ◌*◌, ◌≤◌, get_or}
+use Rattle.schedule.specs.Placements.{rings_of}
+use Rattle.schedule.specs.Plans.{slots_before}
 use Rattle.schedule.proofs.plan.place_rings.Given as goal
 
-abbrev pub invariant-loop-q : goal.invariant-loop-q
-invariant-loop-q l = record {
-  placed : Filled (ring_at l.lengths) no_ring l.ring-items l.q;
-  long : length l.ring-items ≡ l.count;
-  slots : l.slots ≡ slots_before (λ j. get_or l.lengths j 0) l.q;
-  bound : l.slots ≤ 4294967295 * l.q;
+abbrev pub invariant-loop-length : goal.invariant-loop-length
+invariant-loop-length l = record {
+  placed : l.rings.items ≡ rings_of l.lengths l.length-index;
+  slots : l.slots ≡ slots_before (λ j. get_or l.lengths j 0) l.length-index;
+  bound : l.slots ≤ 4294967295 * l.length-index;
 }

@@ -11,8 +11,8 @@ pub returns : goal.returns
 unfolding id_at
 returns c =
     let rs : List Entry = map entry_of c.args.ordered.now.records.now in
-    let n : Counts = c.of-counts.result in
-    let are : n ≡ counts_of rs = c.of-counts.ensures in
+    let n : Counts = c.of-numbering.result.counts in
+    let are : n ≡ counts_of rs = c.of-numbering.ensures in
     record {
       counts = are;
       told = λ m l.
