@@ -4,7 +4,7 @@ use Rattle.acceptance.proofs.Beginning.{first_order, first_accepted, none_counte
 use Rattle.acceptance.proofs.table.Table.new.Goals as goal
 
 pub invariant_of-result : goal.invariant_of-result
-invariant_of-result c = record { accepted = ∣ first_accepted _ _ _ c.in_ok-bytes.ensures.items (ap (map entry_of) c.new-records.ensures.items) (none_counted c.default.result c.default.ensures) c.new-order.ensures c.new-rings.ensures ∣₁ }
+invariant_of-result c = record { accepted = ∣ first_accepted _ _ _ c.in_ok-bytes.ensures.items (ap (map entry_of) c.new-records.ensures.items) (none_counted c.default.result c.default.ensures) c.new.ensures c.new-2.ensures ∣₁ }
 
 pub returns : goal.returns
 returns c = record {
