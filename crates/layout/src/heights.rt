@@ -23,6 +23,7 @@ fn raise(from: &[u32; NODES], to: &mut [u32; NODES], edge: &Edge)
 }
 
 // The heights after one more climb along every edge.
+#[tactic(auto, using(std::proofs::lemmas::List::take_all), unfolding(crate::specs::Climbs::climbed))]
 fn climb(graph: &Graph, from: &[u32; NODES]) -> [u32; NODES]
     // A climb raises the bound, so its result would not have it.
     requires { Low 900000 from.now }

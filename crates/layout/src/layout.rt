@@ -4,10 +4,10 @@ ghost use Rattle.walks.specs.Walks.{Falling};
 ghost use Rattle.walks.specs.Edges.{graph as graph_of};
 ghost use Rattle.layout.specs.Layouts.{Laid};
 
-use arrayvec::ArrayVec;
 use crate::heights::resting_heights;
 use crate::order::evaluation_order;
 use crate::rings::{leads_of, ring_lengths};
+use arrayvec::ArrayVec;
 use walks::graph::{Graph, NODES, STREAMS};
 
 // How values are laid out: for each node its lead and its ring's length, and the streams in an order of evaluation.

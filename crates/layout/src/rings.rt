@@ -35,6 +35,7 @@ fn widen(lengths: &mut [u32; NODES], edge: &Edge, leads: &[u32; NODES])
 }
 
 // How many values each node's ring keeps.
+#[tactic(auto, using(std::proofs::lemmas::List::take_all), unfolding(crate::specs::Sizes::sizes))]
 pub(crate) fn ring_lengths(graph: &Graph, leads: &[u32; NODES]) -> [u32; NODES]
     // One caller makes the leads and passes them on, so a type for their bound would be no plainer.
     requires { Low 1000000 leads.now }

@@ -64,10 +64,10 @@ ring_node rs q l = elim (dec_lt q (count Channel rs)) [
 
 -- ---- nodes and edges within the limits
 module _ (rs : List Entry) (o : Orderly rs) where
-  node_kind : (k : Kind) (n : ℕ) → n < count k rs → (node_by (count Channel rs) (count Stream rs) k n < 64) × (n < 64)
-  node_kind Channel n l = (omega (arith, o.few Channel), omega (arith, o.few Channel))
-  node_kind Stream n l = (omega (arith, o.few Channel, o.few Stream), omega (arith, o.few Stream))
-  node_kind Rule n l = (omega (arith, o.few Channel, o.few Stream, o.few Rule), omega (arith, o.few Rule))
+  node_kind : (k : Kind) (n : ℕ) → n < count k rs → node_by (count Channel rs) (count Stream rs) k n < 64
+  node_kind Channel n l = omega (arith, o.few Channel)
+  node_kind Stream n l = omega (arith, o.few Channel, o.few Stream)
+  node_kind Rule n l = omega (arith, o.few Channel, o.few Stream, o.few Rule)
 
   reads_kind : (k : Kind) (n : ℕ) → ¬ (k ≡ Channel) → count Channel rs ≤ node_by (count Channel rs) (count Stream rs) k n
   reads_kind Channel n h = absurd (h refl)
@@ -81,9 +81,8 @@ module _ (rs : List Entry) (o : Orderly rs) where
 
   near : (r : Reference) → Stands rs r → Near (counts_of rs) r
   near r s = record {
-    numbers = ((node_kind r.reader.kind r.reader.number s.reader).1, (node_kind r.read.kind r.read.number s.read).1);
-    reader = (node_kind r.reader.kind r.reader.number s.reader).0;
-    read = (node_kind r.read.kind r.read.number s.read).0;
+    reader = node_kind r.reader.kind r.reader.number s.reader;
+    read = node_kind r.read.kind r.read.number s.read;
   }
 
   pub all_near : (ns : Counts) → ns ≡ counts_of rs → AllByRecursion (Near ns) (references [] rs)
@@ -93,7 +92,7 @@ module _ (rs : List Entry) (o : Orderly rs) where
   unfolding node
   fit r s = record {
     reads = reads_kind r.reader.kind r.reader.number s.reads;
-    reader = (node_kind r.reader.kind r.reader.number s.reader).0;
+    reader = node_kind r.reader.kind r.reader.number s.reader;
     read = read_kind r.read.kind r.read.number s.no_rule s.read;
     drop = s.near;
     opening = openings_few rs r.reader o.opens;
@@ -111,7 +110,7 @@ module _ (rs : List Entry) (o : Orderly rs) where
   unfolding node
   told_same ns d id valid =
       let at : node_in ns id ≡ node rs id = ap (λ (n : Counts). node_by n.channels n.streams id.kind id.number) d.counts in
-      (at, ap (λ m. get_or ns.told m no_node) at ∙ d.told (node rs id) (node_kind id.kind id.number valid).0 ∙ ap (described rs) (node_back rs id valid))
+      (at, ap (λ m. get_or ns.told m no_node) at ∙ d.told (node rs id) (node_kind id.kind id.number valid) ∙ ap (described rs) (node_back rs id valid))
 
   edge_same : (ns : Nodes) → Describes rs ns → (r : Reference) → Stands rs r → edge_by ns r ≡ edge rs r
   edge_same ns d r s =

@@ -77,7 +77,6 @@ pub record Describes (rs : List Entry) (ns : Nodes) : Type 0 where
 
 -- both ends of a reference are nodes
 pub record Near (n : Counts) (r : Reference) : Type 0 where
-  pub numbers : (r.reader.number < 64) × (r.read.number < 64)
   pub reader : node_by n.channels n.streams r.reader.kind r.reader.number < 64
   pub read : node_by n.channels n.streams r.read.kind r.read.number < 64
 

@@ -29,7 +29,7 @@ impl Numbering {
     // The node of a record.
     pub(crate) fn node(&self, id: Id) -> usize
         // An id is as it was read, so its type cannot carry the bound.
-        requires { id.number < 64 }
+        requires { node_by self.now.counts.channels self.now.counts.streams id.kind id.number < 64 }
         ensures { result ≡ node_by self.now.counts.channels self.now.counts.streams id.kind id.number }
     {
         let Counts {
