@@ -37,6 +37,7 @@ fn climb(graph: &Graph, from: &[u32; NODES]) -> [u32; NODES]
 }
 
 // Heights that a climb leaves as they are; none where even the last climb changes them.
+#[tactic(auto, unfolding(crate::specs::Climbs::heights))]
 pub(crate) fn resting_heights(graph: &Graph) -> Option<[u32; NODES]>
     ensures { MatchOption result (climbed graph.now.edges.now (heights graph.now.edges.now 33) ≢ heights graph.now.edges.now 33) (λ h. Resting graph.now.edges.now h) }
 {

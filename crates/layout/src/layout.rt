@@ -23,6 +23,7 @@ pub struct Layout {
 }
 
 // The layout of the nodes; none where a closed walk weighs 0 or more.
+#[tactic(auto, using(crate::proofs::Resting::leads_low, crate::proofs::Climbs::at_rest))]
 pub fn lay_out(graph: &Graph) -> Option<Layout>
     ensures { MatchOption result (Falling (graph_of graph.now.edges.now) → ⊥) (λ l. Laid graph.now.channels graph.now.streams graph.now.edges.now l) }
 {

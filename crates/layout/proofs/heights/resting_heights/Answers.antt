@@ -1,15 +1,11 @@
 -- The row is that of the climbs so far, and each of them has changed it.
-use Rattle.std.proofs.Common.{◌≡◌, ℕ, ◌+◌, ◌-◌, Bool, true, false, Decides, sym, refl, ap, ◌∙◌, subst, arith}
+use Rattle.std.proofs.Common.{◌≡◌, ℕ, ◌+◌, ◌-◌, Bool, true, false, Decides, sym, ap, ◌∙◌, subst, arith}
 use Rattle.std.proofs.lemmas.Slice.Eq.{slice_eq-Decides}
 use Rattle.walks.proofs.Through.{graph_bounded}
 use Rattle.layout.specs.Climbs.{Low, climbed, heights}
 use Rattle.layout.proofs.Climbs.{heights_low, heights_more}
 use Rattle.layout.proofs.heights.resting_heights.Goals as goal
 use Rattle.std.proofs.lemmas.Bool.Decides.{Decides-eqb}
-
-pub loop-init : goal.loop-init
-unfolding heights
-loop-init c = (refl, λ l. absurd (omega arith))
 
 pub climb-next-requires : goal.climb-next-requires
 climb-next-requires c = subst (Low 900000) (sym c.loop.invariant.0) (heights_low c.args.graph.now.edges.now (graph_bounded c.args.graph.now) c.loop.counter (omega arith))
