@@ -65,7 +65,7 @@ pub(crate) struct Placed {
 
 // Places so many rings of the given lengths one after another.
 fn place_rings(lengths: &[u32; NODES], count: usize) -> Placed
-    requires { count ≤ 48 }
+    requires { count ≤ RINGS }
     ensures { Consecutive lengths.now count result }
 {
     let mut rings = ArrayVec::new();
