@@ -9,6 +9,7 @@ use acceptance::line;
 use programs::exit::exit_code;
 use programs::vectors::{tell_line, tell_lines};
 use std::alloc::{AllocError, Global};
+use std::io::{BufReader, LineWriter};
 use std::process::ExitCode;
 
 // What is told of a line; a function of its own, since each program promises another text.
@@ -18,6 +19,14 @@ fn tell(alloc: Global, text: &str) -> Result<String, AllocError>
     tell_line(alloc, text, |bytes| line::tell(alloc, bytes))
 }
 
+fn run(rt: &HostRuntime) -> anyhow::Result<()> {
+    let alloc = rt.alloc();
+    let input = BufReader::new(alloc, rt.stdin())?;
+    // A line goes out whole, before the next is read.
+    let mut output = LineWriter::new(alloc, rt.stdout())?;
+    tell_lines(alloc, input, &mut output, tell)
+}
+
 fn main(rt: HostRuntime) -> ExitCode {
-    exit_code(&rt, "acceptance_vectors", tell_lines(&rt, tell))
+    exit_code(&rt, "acceptance_vectors", run(&rt))
 }

@@ -1,7 +1,7 @@
 // That calls succeed, and the text of an error, on examples.
 use crate::exit::exit_code;
 use crate::input::read_at_most;
-use crate::vectors::{table_bytes, tell_line};
+use crate::vectors::{table_bytes, tell_line, tell_lines};
 use std::io;
 use std::io::{ErrorKind, Read};
 use std::process::ExitCode;
@@ -57,5 +57,28 @@ fn tells_of_lines(rt: HostRuntime) -> Result<(), Fail> {
     assert!(rt; told.as_str() == "not hexadecimal");
     assert!(rt; table_bytes(alloc, "010")?.is_none());
     assert!(rt; exit_code(&rt, "programs", Ok(())) == ExitCode::SUCCESS);
+    Ok(())
+}
+
+#[test]
+fn tells_of_lines_that_count(rt: HostRuntime) -> Result<(), Fail> {
+    let alloc = rt.alloc();
+    let mut output = Vec::new(alloc);
+    let input = b"# none\n01\n\n  - \r\n \t\n  #\nlast";
+    tell_lines(alloc, input.as_slice(), &mut output, |alloc, text| {
+        format!(in alloc; "<{text}>")
+    })?;
+    assert!(rt; output.as_slice() == b"<01>\n<->\n<last>\n".as_slice());
+    Ok(())
+}
+
+#[test]
+fn tells_of_lines_up_to_one_that_is_no_text(rt: HostRuntime) -> Result<(), Fail> {
+    let alloc = rt.alloc();
+    let mut output = Vec::new(alloc);
+    let input = b"01\n\xff\n02\n";
+    let outcome = tell_lines(alloc, input.as_slice(), &mut output, String::from_str);
+    assert!(rt; outcome.is_err());
+    assert!(rt; output.as_slice() == b"01\n".as_slice());
     Ok(())
 }

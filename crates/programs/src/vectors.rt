@@ -1,11 +1,13 @@
 // Many tables on standard input, one a line in hexadecimal.
-ghost use Rattle.std.specs.Prelude.{◌≡◌, Ok, IfOk, vec_items};
+ghost use Rattle.std.specs.Prelude.{◌≡◌, Ok, IfOk, IfSome, vec_items};
+ghost use Rattle.std.specs.Io.KnownBytes.{Appends};
+ghost use Rattle.std.specs.List.{AllZip, filter_map};
 ghost use Rattle.std.specs.Option.{option_map};
-ghost use Rattle.programs.specs.Telling.{table_of, TellsBy};
+ghost use Rattle.programs.specs.Telling.{table_of, TellsBy, Split, text_of, Answers, written};
 
 use hexadecimal::parse_hex;
 use std::alloc::{AllocError, Global};
-use std::io::{BufRead, BufReader};
+use std::io::{BufRead, Write};
 
 // The bytes of a table that a line writes: `-` for none, else hexadecimal.
 pub fn table_bytes(alloc: Global, text: &str) -> Result<Option<Vec<u8>>, AllocError>
@@ -32,22 +34,35 @@ pub fn tell_line<F: Fn(&[u8]) -> Result<String, AllocError>>(
     }
 }
 
-// Prints what `tell` says of each line; blank lines and those that begin with `#` are skipped. What lines came has no contract.
-pub fn tell_lines<F: Fn(Global, &str) -> Result<String, AllocError>>(
-    rt: &HostRuntime,
+// The text of a line that counts: a blank one does not, nor one that begins with `#`.
+fn line_text(line: &str) -> Option<&str>
+    ensures { option_map (λ s. s.now) result ≡ text_of line.now }
+{
+    let text = line.trim();
+    if text.is_empty() || text.starts_with('#') {
+        return None;
+    }
+    Some(text)
+}
+
+// Writes what `tell` says of each line that counts, before it reads the next.
+pub fn tell_lines<R: BufRead + Drop, W: Write, F: Fn(Global, &str) -> Result<String, AllocError>>(
+    alloc: Global,
+    input: R,
+    output: &mut W,
     tell: F,
 ) -> anyhow::Result<()>
     requires { F.IsAlwaysCallable tell }
+    ensures { IfOk result (λ _. (lines : _) × (told : _)
+        × IfSome (R.remaining input) (λ xs. Split xs lines)
+        × AllZip (Answers F.Fn tell alloc) (filter_map text_of lines) told
+        × Appends (W.contents output.old) (W.contents output.new) (written told)) }
 {
-    let alloc = rt.alloc();
-    for line in BufReader::new(alloc, rt.stdin())?.lines(alloc) {
+    for line in input.lines(alloc) {
         let line = line?;
-        let text = line.trim();
-        if text.is_empty() || text.starts_with('#') {
-            continue;
+        if let Some(text) = line_text(&line) {
+            writeln!(output, "{}", tell(alloc, text)?)?;
         }
-        let told = tell(alloc, text)?;
-        println!(rt; "{told}")?;
     }
     Ok(())
 }
