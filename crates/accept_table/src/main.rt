@@ -6,6 +6,7 @@ use anyhow::anyhow;
 use programs::exit::exit_code;
 use programs::input::tell_input;
 use std::env;
+use std::io::LineWriter;
 use std::process::ExitCode;
 
 const USAGE: &str = "usage: accept_table [--walk] < TABLE
@@ -21,9 +22,13 @@ The status is 0 after either line, and 1 where the input cannot be read.";
 // Looks at the arguments: none for a check, or one that asks for the walk too or for help.
 // Each program has words and an error text of its own, so one match in two places is the plainest.
 fn run(rt: &HostRuntime) -> anyhow::Result<()> {
+    let (alloc, input) = (rt.alloc(), rt.stdin());
+    let mut output = LineWriter::new(alloc, rt.stdout())?;
     match env::args(rt)?.nth(1) {
-        None => tell_input(rt, tell),
-        Some(word) if word.as_str() == "--walk" => tell_input(rt, tell_walk),
+        None => tell_input(alloc, input, &mut output, tell),
+        Some(word) if word.as_str() == "--walk" => {
+            tell_input(alloc, input, &mut output, tell_walk)
+        }
         Some(word) if word.as_str() == "--help" => {
             println!(rt; "{USAGE}")?;
             Ok(())

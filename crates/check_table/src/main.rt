@@ -5,6 +5,7 @@ use anyhow::anyhow;
 use programs::exit::exit_code;
 use programs::input::tell_input;
 use std::env;
+use std::io::LineWriter;
 use std::process::ExitCode;
 use tables::check::answer;
 
@@ -17,8 +18,10 @@ The status is 0 after either line, and 1 where the input cannot be read.";
 // Looks at the arguments: none for a check, one for help.
 // Each program has words and an error text of its own, so one match in two places is the plainest.
 fn run(rt: &HostRuntime) -> anyhow::Result<()> {
+    let alloc = rt.alloc();
+    let mut output = LineWriter::new(alloc, rt.stdout())?;
     match env::args(rt)?.nth(1) {
-        None => tell_input(rt, answer),
+        None => tell_input(alloc, rt.stdin(), &mut output, answer),
         Some(word) if word.as_str() == "--help" => {
             println!(rt; "{USAGE}")?;
             Ok(())

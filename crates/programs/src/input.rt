@@ -1,9 +1,11 @@
 // A table on standard input, as raw bytes.
-ghost use Rattle.std.specs.Prelude.{◌≡◌, ◌≤◌, Ok, length, take, IfOk, IfSome};
+ghost use Rattle.std.specs.Prelude.{◌≡◌, ◌≤◌, [], ◌∷◌, length, take, IfOk, IfSome};
+ghost use Rattle.std.specs.Io.KnownBytes.{Appends};
+ghost use Rattle.programs.specs.Telling.{Answers, written};
 
 use anyhow::Context;
 use std::alloc::{AllocError, Global};
-use std::io::Read;
+use std::io::{Read, Write};
 
 // One byte more than a table may have, so that a longer input is seen to be one.
 const MOST: usize = 8193;
@@ -24,17 +26,21 @@ pub fn read_at_most<R: Read + Drop>(alloc: Global, input: R, most: usize) -> any
     Ok(bytes)
 }
 
-// Prints what `tell` says of the table on standard input: where it succeeds, `tell` gave a text of at most 8,193 bytes.
-pub fn tell_input<F: Fn(Global, &[u8]) -> Result<String, AllocError>>(
-    rt: &HostRuntime,
+// Writes what `tell` says of the first 8,193 bytes of the input, or of all where there are fewer.
+pub fn tell_input<R: Read + Drop, W: Write, F: Fn(Global, &[u8]) -> Result<String, AllocError>>(
+    alloc: Global,
+    input: R,
+    output: &mut W,
     tell: F,
 ) -> anyhow::Result<()>
     requires { F.IsAlwaysCallable tell }
-    ensures { IfOk result (λ _. (alloc : _) × (input : _) × (text : _) × (length input.now ≤ 8193) × F.post tell alloc input (Ok text)) }
+    ensures { IfOk result (λ _. (bytes : _) × (told : _)
+        × (length bytes ≤ 8193)
+        × IfSome (R.remaining input) (λ xs. bytes ≡ take 8193 xs)
+        × Answers F.Fn tell alloc bytes told
+        × Appends (W.contents output.old) (W.contents output.new) (written (told ∷ []))) }
 {
-    let alloc = rt.alloc();
-    let bytes = read_at_most(alloc, rt.stdin(), MOST)?;
-    let text = tell(alloc, &bytes)?;
-    println!(rt; "{text}")?;
+    let bytes = read_at_most(alloc, input, MOST)?;
+    writeln!(output, "{}", tell(alloc, &bytes)?)?;
     Ok(())
 }

@@ -1,6 +1,6 @@
 // That calls succeed, and the text of an error, on examples.
 use crate::exit::exit_code;
-use crate::input::read_at_most;
+use crate::input::{read_at_most, tell_input};
 use crate::vectors::{table_bytes, tell_line, tell_lines};
 use std::io;
 use std::io::{ErrorKind, Read};
@@ -44,6 +44,18 @@ fn tells_a_read_that_fails(rt: HostRuntime) -> Result<(), Fail> {
             Ok(())
         },
     }
+}
+
+#[test]
+fn tells_of_the_input(rt: HostRuntime) -> Result<(), Fail> {
+    let alloc = rt.alloc();
+    let mut output = Vec::new(alloc);
+    let input = [1u8, 2];
+    tell_input(alloc, input.as_slice(), &mut output, |alloc, bytes| {
+        format!(in alloc; "{bytes:?}")
+    })?;
+    assert!(rt; output.as_slice() == b"[1, 2]\n".as_slice());
+    Ok(())
 }
 
 #[test]
