@@ -6,14 +6,17 @@ use Rattle.values.specs.declared.types.«Type».TheVariants.{Bool}
 use Rattle.values.specs.declared.value.Value.{Value}
 use Rattle.values.specs.Values.{type_of}
 use Rattle.syntax.specs.Trees.{Exp}
-use Rattle.names.specs.Uses.{Name, channel, stream, Use, uses}
+use Rattle.names.specs.declared.uses.Name.{Name}
+use Rattle.names.specs.declared.uses.Name.TheVariants as name
+use Rattle.names.specs.declared.uses.Use.{Use}
+use Rattle.names.specs.Uses.{uses}
 use Rattle.typing.specs.Typing.{shape}
 use Rattle.evaluation.specs.Meaning.{meaning}
 
 -- a source has a value of the declared type at a name, where cs are the channels' types and ss the streams'
 abbrev pub OfType : List Ty → List Ty → (ℕ → Value) → (ℕ → ℕ → Value) → Name → Type 0
-OfType cs ss c s (channel i) = type_of (c i) ≡ slice_index_or cs i Bool
-OfType cs ss c s (stream i d) = type_of (s i d) ≡ slice_index_or ss i Bool
+OfType cs ss c s (name.Channel i) = type_of (c i) ≡ slice_index_or cs i Bool
+OfType cs ss c s (name.Stream i d) = type_of (s i d) ≡ slice_index_or ss i Bool
 
 -- and so at all that is used
 abbrev pub OfTypes : List Ty → List Ty → (ℕ → Value) → (ℕ → ℕ → Value) → List Use → Type 0

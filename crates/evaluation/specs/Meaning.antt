@@ -6,7 +6,10 @@ use Rattle.values.specs.Values.{num, wrap}
 use Rattle.operators.specs.Operators.{unary, binary, chosen}
 use Rattle.syntax.specs.Trees.{Exp}
 use Rattle.syntax.specs.Trees as tree
-use Rattle.names.specs.Uses.{Name, channel, stream, Use, uses}
+use Rattle.names.specs.declared.uses.Name.{Name}
+use Rattle.names.specs.declared.uses.Name.TheVariants as name
+use Rattle.names.specs.declared.uses.Use.{Use}
+use Rattle.names.specs.Uses.{uses}
 
 -- the value, where c has the sample of each channel by its number, and s the value of each stream by its number and drop
 abbrev pub meaning : (ℕ → Value) → (ℕ → ℕ → Value) → Exp → Value
@@ -30,8 +33,8 @@ levels (tree.choose at t a b) = max (levels t) (max (levels a) (levels b)) + 1
 
 -- two sources have one value at a name
 abbrev pub Same : (ℕ → Value) → (ℕ → ℕ → Value) → (ℕ → Value) → (ℕ → ℕ → Value) → Name → Type 0
-Same c s c' s' (channel i) = c i ≡ c' i
-Same c s c' s' (stream i d) = s i d ≡ s' i d
+Same c s c' s' (name.Channel i) = c i ≡ c' i
+Same c s c' s' (name.Stream i d) = s i d ≡ s' i d
 
 -- two sources agree on what is used
 abbrev pub Agree : (ℕ → Value) → (ℕ → ℕ → Value) → (ℕ → Value) → (ℕ → ℕ → Value) → List Use → Type 0

@@ -2,7 +2,8 @@
 use Rattle.std.proofs.Common.{◌≡◌, ℕ, List, [], ◌∷◌, ◌++◌, refl, ap, ◌∙◌}
 use Rattle.syntax.specs.Passing.{then, every}
 use Rattle.syntax.proofs.Passing.{every_append}
-use Rattle.names.specs.Uses.{Use, gathered}
+use Rattle.names.specs.declared.uses.Use.{Use}
+use Rattle.names.specs.Uses.{gathered}
 use Rattle.names.specs.Declaring.{named, undeclared}
 
 pub undeclared_append : (cs ss : ℕ) (us vs : List Use) → undeclared cs ss (us ++ vs) ≡ then (undeclared cs ss us) (λ _. undeclared cs ss vs)

@@ -4,12 +4,15 @@ use Rattle.faults.specs.declared.cause.Cause.TheVariants.{Undeclared}
 use Rattle.syntax.specs.declared.record.Kind.TheVariants.{Channel, Stream}
 use Rattle.syntax.specs.Passing.{Passed, every}
 use Rattle.syntax.specs.Entries.{Entry, count}
-use Rattle.names.specs.Uses.{Name, channel, stream, Use, uses_in}
+use Rattle.names.specs.declared.uses.Name.{Name}
+use Rattle.names.specs.declared.uses.Name.TheVariants as name
+use Rattle.names.specs.declared.uses.Use.{Use}
+use Rattle.names.specs.Uses.{uses_in}
 
 -- a name is one of so many channels or streams
 abbrev pub declares : ℕ → ℕ → Name → Bool
-declares channels streams (channel i) = nat_lt i channels
-declares channels streams (stream i d) = nat_lt i streams
+declares channels streams (name.Channel i) = nat_lt i channels
+declares channels streams (name.Stream i d) = nat_lt i streams
 
 -- a name passes where it is declared
 abbrev pub named : ℕ → ℕ → Use → Passed

@@ -1,25 +1,17 @@
 -- What expressions name, in reading order. Assumes nothing.
-use Rattle.std.specs.Prelude.{ℕ, ◌+◌, List, [], ◌∷◌, ◌++◌}
+use Rattle.std.specs.Prelude.{◌+◌, List, [], ◌∷◌, ◌++◌}
 use Rattle.syntax.specs.Trees.{Exp}
 use Rattle.syntax.specs.Trees as tree
 use Rattle.syntax.specs.Entries.{Entry}
 use Rattle.syntax.specs.Entries as entry
-
--- a channel by its number, or a stream by its number with a drop
-pub data Name : Type 0 where
-  channel : ℕ → Name
-  stream : ℕ → ℕ → Name
-
--- a name, and the place of its number's byte
-pub record Use : Type 0 where
-  pub place : ℕ
-  pub name : Name
+use Rattle.names.specs.declared.uses.Name.TheVariants.{Channel, Stream}
+use Rattle.names.specs.declared.uses.Use.{Use}
 
 -- what an expression names; a branch that is never chosen counts too
 abbrev pub uses : Exp → List Use
 uses (tree.constant at v) = []
-uses (tree.channel at i) = record { place = at + 1; name = channel i } ∷ []
-uses (tree.stream at i d) = record { place = at + 1; name = stream i d } ∷ []
+uses (tree.channel at i) = record { place = at + 1; name = Channel i } ∷ []
+uses (tree.stream at i d) = record { place = at + 1; name = Stream i d } ∷ []
 uses (tree.unary at o e) = uses e
 uses (tree.cast at t e) = uses e
 uses (tree.binary at o a b) = uses a ++ uses b

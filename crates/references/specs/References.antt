@@ -5,7 +5,10 @@ use Rattle.std.specs.List.{slice_get}
 use Rattle.syntax.specs.declared.record.Kind.{Kind}
 use Rattle.syntax.specs.declared.record.Kind.TheVariants.{Channel, Stream}
 use Rattle.syntax.specs.Entries.{Entry, kind_of, kind_code, count}
-use Rattle.names.specs.Uses.{Name, channel, stream, Use, uses_of}
+use Rattle.names.specs.declared.uses.Name.{Name}
+use Rattle.names.specs.declared.uses.Name.TheVariants as name
+use Rattle.names.specs.declared.uses.Use.{Use}
+use Rattle.names.specs.Uses.{uses_of}
 use Rattle.references.specs.declared.reference.Id.{Id}
 use Rattle.references.specs.declared.reference.Reference.{Reference}
 
@@ -15,8 +18,8 @@ reads reader k i d = record { reader = reader; read = record { kind = k; number 
 
 -- what a name refers to: a channel at the index where it is read, a stream so many indexes ahead
 abbrev pub refer_name : Id → Name → Reference
-refer_name reader (channel i) = reads reader Channel i 0
-refer_name reader (stream i d) = reads reader Stream i d
+refer_name reader (name.Channel i) = reads reader Channel i 0
+refer_name reader (name.Stream i d) = reads reader Stream i d
 
 abbrev pub refer : Id → Use → Reference
 refer reader u = refer_name reader u.name

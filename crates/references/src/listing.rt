@@ -1,78 +1,50 @@
 // The references of a table, in reading order.
-ghost use Rattle.std.specs.Prelude.{◌≡◌, [], ◌∷◌, ◌++◌, map, IfOk, OnOk};
+ghost use Rattle.std.specs.Prelude.{◌≡◌, [], ◌++◌, map, IfOk, OnOk};
 ghost use Rattle.syntax.specs.Entries.{entry_of};
-ghost use Rattle.syntax.specs.declared.record.Record.TheVariants as records;
-ghost use Rattle.syntax.specs.Trees.{exp};
-ghost use Rattle.names.specs.Uses.{uses, uses_of};
-ghost use Rattle.references.specs.References.{reads, refer, references};
+ghost use Rattle.references.specs.References.{refer, references};
 
 use crate::reference::{Id, Reference};
+use names::uses::{Name, Use, Visitor, visit_record};
 use std::alloc::{AllocError, Global};
-use syntax::record::{Kind, Record, Rule, count};
-use syntax::tree::Expr;
+use syntax::record::{Kind, Record, count};
 
-// Adds a reference to the record of a kind and number.
-// List and reader are two parameters: in a struct of both each clause would have to say that the reader stays.
-fn add(
-    found: &mut Vec<Reference>,
+// Adds a reference for each name, with the record that reads it.
+#[derive(Drop)]
+struct Listing<'a> {
+    found: &'a mut Vec<Reference>,
     reader: Id,
-    kind: Kind,
-    number: u8,
-    drop: u8,
-) -> Result<(), AllocError>
-    ensures { OnOk result (found.new.items ≡ found.old.items ++ (reads reader kind number drop ∷ [])) }
-{
-    let read = Id {
-        kind,
-        number: usize::from(number),
-    };
-    found.push(Reference { reader, read, drop })?;
-    Ok(())
 }
 
-// Adds what an expression reads; a branch that is never chosen counts too. The check of names goes the same way, but not by one
-// walk with a closure: it can't fail for want of memory, and a proof knows nothing of what a closure added.
-fn add_expression(found: &mut Vec<Reference>, reader: Id, e: &Expr) -> Result<(), AllocError>
-    ensures { OnOk result (found.new.items ≡ found.old.items ++ map (refer reader) (uses (exp e.now))) }
-{
-    match e {
-        Expr::Constant { .. } => Ok(()),
-        Expr::Channel { number, .. } => add(found, reader, Kind::Channel, *number, 0),
-        Expr::Stream { number, drop, .. } => add(found, reader, Kind::Stream, *number, *drop),
-        Expr::Unary { operand, .. } | Expr::Cast { operand, .. } => {
-            add_expression(found, reader, operand)
-        }
-        Expr::Binary { left, right, .. } => {
-            add_expression(found, reader, left)?;
-            add_expression(found, reader, right)
-        }
-        Expr::Choose { test, yes, no, .. } => {
-            add_expression(found, reader, test)?;
-            add_expression(found, reader, yes)?;
-            add_expression(found, reader, no)
-        }
-    }
-}
+impl<'a> Visitor for Listing<'a> {
+    ghost use Rattle.std.proofs.Common.{rules};
+    ghost use Rattle.std.proofs.lemmas.Grind.{common_steps};
 
-// The same of a rule: its guard, and then its arguments. A `for`: after `try_for_each` a proof does not know what its closure added.
-fn add_rule(found: &mut Vec<Reference>, reader: Id, rule: &Rule) -> Result<(), AllocError>
-    ensures { OnOk result (found.new.items ≡ found.old.items ++ map (refer reader) (uses_of (entry_of (records.Rule rule.now)))) }
-{
-    add_expression(found, reader, &rule.guard)?;
-    for e in &rule.arguments {
-        add_expression(found, reader, e)?;
-    }
-    Ok(())
-}
+    type Error = AllocError;
 
-// The same of a record.
-fn add_record(found: &mut Vec<Reference>, reader: Id, r: &Record) -> Result<(), AllocError>
-    ensures { OnOk result (found.new.items ≡ found.old.items ++ map (refer reader) (uses_of (entry_of r.now))) }
-{
-    match r {
-        Record::Channel(_) => Ok(()),
-        Record::Stream(stream) => add_expression(found, reader, &stream.body),
-        Record::Rule(rule) => add_rule(found, reader, rule),
+    // a reference more for each name, in the same list
+    ghost visits = { λ s us r t. OnOk r ((t.reader ≡ s.reader) × (t.found.ghost_name ≡ s.found.ghost_name) × (t.found.now.items ≡ s.found.now.items ++ map (refer s.reader) us)) };
+
+    ghost none = { Prim.search rules };
+
+    ghost more = { Prim.search (rules, common_steps) };
+
+    ghost stops = { Prim.search rules };
+
+    fn visit(&mut self, used: Use) -> Result<(), AllocError> {
+        let (kind, number, drop) = match used.name {
+            Name::Channel(number) => (Kind::Channel, number, 0),
+            Name::Stream(number, drop) => (Kind::Stream, number, drop),
+        };
+        let read = Id {
+            kind,
+            number: usize::from(number),
+        };
+        self.found.push(Reference {
+            reader: self.reader,
+            read,
+            drop,
+        })?;
+        Ok(())
     }
 }
 
@@ -85,7 +57,12 @@ pub fn list_references(alloc: Global, records: &[Record]) -> Result<Vec<Referenc
     for (i, r) in records.iter().enumerate() {
         let kind = r.kind();
         let number = count(&records[..i], kind);
-        add_record(&mut found, Id { kind, number }, r)?;
+        let reader = Id { kind, number };
+        let mut listing = Listing {
+            found: &mut found,
+            reader,
+        };
+        visit_record(r, &mut listing)?;
     }
     Ok(found)
 }

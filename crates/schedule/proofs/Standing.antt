@@ -12,7 +12,10 @@ use Rattle.syntax.specs.Passing.{Passed, every, then}
 use Rattle.syntax.specs.Trees.{Exp}
 use Rattle.syntax.specs.Trees as tree
 use Rattle.syntax.specs.Written.{Bounded, Small}
-use Rattle.names.specs.Uses.{Name, channel, stream, Use, uses, gathered, uses_of, uses_in}
+use Rattle.names.specs.declared.uses.Name.{Name}
+use Rattle.names.specs.declared.uses.Name.TheVariants as name
+use Rattle.names.specs.declared.uses.Use.{Use}
+use Rattle.names.specs.Uses.{uses, gathered, uses_of, uses_in}
 use Rattle.names.specs.Declaring.{declares, named}
 use Rattle.references.specs.declared.reference.Id.{Id}
 use Rattle.references.specs.References.{refer_name, refer, id_after, references}
@@ -42,8 +45,8 @@ every_all f (x ∷ xs) e = go (f x) refl e (every_all f xs)
 -- ---- what is used
 -- no drop is above 63
 abbrev Close : Name → Type 0
-Close (channel i) = Unit {0}
-Close (stream i d) = d ≤ 63
+Close (name.Channel i) = Unit {0}
+Close (name.Stream i d) = d ≤ 63
 
 abbrev CloseUse : Use → Type 0
 CloseUse u = Close u.name
@@ -82,14 +85,14 @@ module _ (whole : List Entry) where
   Known u = named (count Channel whole) (count Stream whole) u ≡ Ok tt
 
   refers : (id : Id) (n : Name) → Valid whole id → ¬ (id.kind ≡ Channel) → declares (count Channel whole) (count Stream whole) n ≡ true → Close n → Stands whole (refer_name id n)
-  refers id (channel i) valid reads declared close = record {
+  refers id (name.Channel i) valid reads declared close = record {
     reader = valid;
     read = ltb-true i (count Channel whole) declared;
     reads = reads;
     no_rule = λ e. absurd (let q : ◌≡◌ {A = ℕ} 0 1 = cc in omega arith);
     near = omega arith;
   }
-  refers id (stream i d) valid reads declared close = record {
+  refers id (name.Stream i d) valid reads declared close = record {
     reader = valid;
     read = ltb-true i (count Stream whole) declared;
     reads = reads;
