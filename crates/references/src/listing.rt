@@ -22,7 +22,9 @@ impl<'a> Visitor for Listing<'a> {
     type Error = AllocError;
 
     // a reference more for each name, in the same list
-    ghost visits = { λ s us r t. OnOk r ((t.reader ≡ s.reader) × (t.found.ghost_name ≡ s.found.ghost_name) × (t.found.now.items ≡ s.found.now.items ++ map (refer s.reader) us)) };
+    ghost visits = { λ s us r t. OnOk r
+        ((t.reader ≡ s.reader) × (t.found.ghost_name ≡ s.found.ghost_name)
+        × (t.found.now.items ≡ s.found.now.items ++ map (refer s.reader) us)) };
 
     ghost none = { Prim.search rules };
 
@@ -35,13 +37,10 @@ impl<'a> Visitor for Listing<'a> {
             Name::Channel(number) => (Kind::Channel, number, 0),
             Name::Stream(number, drop) => (Kind::Stream, number, drop),
         };
-        let read = Id {
-            kind,
-            number: usize::from(number),
-        };
+        let number = usize::from(number);
         self.found.push(Reference {
             reader: self.reader,
-            read,
+            read: Id { kind, number },
             drop,
         })?;
         Ok(())
@@ -57,10 +56,9 @@ pub fn list_references(alloc: Global, records: &[Record]) -> Result<Vec<Referenc
     for (i, r) in records.iter().enumerate() {
         let kind = r.kind();
         let number = count(&records[..i], kind);
-        let reader = Id { kind, number };
         let mut listing = Listing {
             found: &mut found,
-            reader,
+            reader: Id { kind, number },
         };
         visit_record(r, &mut listing)?;
     }
