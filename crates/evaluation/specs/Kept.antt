@@ -8,8 +8,7 @@ use Rattle.values.specs.Values.{type_of}
 use Rattle.syntax.specs.Trees.{Exp}
 use Rattle.names.specs.declared.uses.Name.{Name}
 use Rattle.names.specs.declared.uses.Name.TheVariants as name
-use Rattle.names.specs.declared.uses.Use.{Use}
-use Rattle.names.specs.Uses.{uses}
+use Rattle.names.specs.Uses.{Use, uses}
 use Rattle.typing.specs.Typing.{shape}
 use Rattle.evaluation.specs.Meaning.{meaning}
 

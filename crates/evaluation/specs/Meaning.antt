@@ -8,8 +8,7 @@ use Rattle.syntax.specs.Trees.{Exp}
 use Rattle.syntax.specs.Trees as tree
 use Rattle.names.specs.declared.uses.Name.{Name}
 use Rattle.names.specs.declared.uses.Name.TheVariants as name
-use Rattle.names.specs.declared.uses.Use.{Use}
-use Rattle.names.specs.Uses.{uses}
+use Rattle.names.specs.Uses.{Use, uses}
 
 -- the value, where c has the sample of each channel by its number, and s the value of each stream by its number and drop
 abbrev pub meaning : (ℕ → Value) → (ℕ → ℕ → Value) → Exp → Value

@@ -2,8 +2,7 @@
 use Rattle.std.proofs.Common.{◌≡◌, ℕ, List, [], ◌∷◌, refl, ap, ◌∙◌}
 use Rattle.syntax.specs.Passing.{then, every}
 use Rattle.syntax.proofs.Passing.{every_append}
-use Rattle.names.specs.declared.uses.Use.{Use}
-use Rattle.names.specs.Uses.{gathered}
+use Rattle.names.specs.Uses.{Use, gathered}
 use Rattle.names.specs.Declaring.{named, undeclared}
 
 pub undeclared_gathered : (cs ss : ℕ) {X : Type 0} (f : X → List Use) (xs : List X) → undeclared cs ss (gathered f xs) ≡ every (λ x. undeclared cs ss (f x)) xs

@@ -6,8 +6,7 @@ use Rattle.syntax.specs.Passing.{Passed, every}
 use Rattle.syntax.specs.Entries.{Entry, count}
 use Rattle.names.specs.declared.uses.Name.{Name}
 use Rattle.names.specs.declared.uses.Name.TheVariants as name
-use Rattle.names.specs.declared.uses.Use.{Use}
-use Rattle.names.specs.Uses.{uses_in}
+use Rattle.names.specs.Uses.{Use, uses_in}
 
 -- a name is one of so many channels or streams
 abbrev pub declares : ℕ → ℕ → Name → Bool

@@ -1,11 +1,16 @@
 -- What expressions name, in reading order. Assumes nothing.
-use Rattle.std.specs.Prelude.{◌+◌, List, [], ◌∷◌, ◌++◌}
+use Rattle.std.specs.Prelude.{ℕ, ◌+◌, List, [], ◌∷◌, ◌++◌}
 use Rattle.syntax.specs.Trees.{Exp}
 use Rattle.syntax.specs.Trees as tree
 use Rattle.syntax.specs.Entries.{Entry}
 use Rattle.syntax.specs.Entries as entry
+use Rattle.names.specs.declared.uses.Name.{Name}
 use Rattle.names.specs.declared.uses.Name.TheVariants.{Channel, Stream}
-use Rattle.names.specs.declared.uses.Use.{Use}
+
+-- a name, and the place of its number's byte
+pub record Use : Type 0 where
+  pub place : ℕ
+  pub name : Name
 
 -- what an expression names; a branch that is never chosen counts too
 abbrev pub uses : Exp → List Use

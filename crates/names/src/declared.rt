@@ -3,7 +3,7 @@ ghost use Rattle.std.specs.Prelude.{◌≡◌, map};
 ghost use Rattle.syntax.specs.Entries.{entry_of};
 ghost use Rattle.names.specs.Declaring.{undeclared, undeclared_in};
 
-use crate::uses::{Name, Use, Visitor, visit_record};
+use crate::uses::{Name, Visitor, visit_record};
 use faults::cause::Cause;
 use syntax::record::{Counts, Record};
 
@@ -28,11 +28,11 @@ impl Visitor for Check {
 
     ghost stops = { Prim.search (rules, every_append) };
 
-    fn visit(&mut self, used: Use) -> Result<(), Cause> {
-        match used.name {
+    fn visit(&mut self, place: usize, name: Name) -> Result<(), Cause> {
+        match name {
             Name::Channel(number) if usize::from(number) < self.declared.channels => Ok(()),
             Name::Stream(number, _) if usize::from(number) < self.declared.streams => Ok(()),
-            _ => Err(Cause::Undeclared(used.place)),
+            _ => Err(Cause::Undeclared(place)),
         }
     }
 }

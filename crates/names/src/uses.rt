@@ -2,7 +2,7 @@
 ghost use Rattle.std.specs.Prelude.{List, [], ◌∷◌, ◌++◌, Result, Ok, Err};
 ghost use Rattle.syntax.specs.Entries.{entry_of};
 ghost use Rattle.syntax.specs.Trees.{exp};
-ghost use Rattle.names.specs.Uses.{uses, uses_of};
+ghost use Rattle.names.specs.Uses.{Use, uses, uses_of};
 
 use syntax::record::Record;
 use syntax::tree::Expr;
@@ -15,24 +15,16 @@ pub enum Name {
     Stream(u8, u8),
 }
 
-// A name, and the place of its number's byte.
-#[derive(Clone, Copy, Debug, PartialEq, Eq)]
-pub struct Use {
-    pub place: usize,
-    pub name: Name,
-}
-
 // What is done with each name, until one is refused.
 pub trait Visitor {
-    ghost use Rattle.names.specs.declared.uses.Use.{Use};
-
     type Error;
 
     // what visiting these names in order may come to, from one state to the next
     ghost visits: { Self → List Use → Result (Unit {0}) Self.Error → Self → Type 0 };
 
-    fn visit(&mut self, used: Use) -> Result<(), Self::Error>
-        ensures { visits self.old (used ∷ []) result self.new };
+    // a name, and the place of its number's byte
+    fn visit(&mut self, place: usize, name: Name) -> Result<(), Self::Error>
+        ensures { visits self.old (record { place = place; name = name } ∷ []) result self.new };
 
     // laws: no names, names after others that went well, and names after a refusal
     ghost none: { (s : Self) → visits s [] (Ok tt) s };
@@ -48,18 +40,14 @@ fn visit_expression<V: Visitor>(e: &Expr, visitor: &mut V) -> Result<(), V::Erro
 {
     match e {
         Expr::Constant { .. } => Ok(()),
-        Expr::Channel { place, number } => visitor.visit(Use {
-            place: usize::from(*place) + 1,
-            name: Name::Channel(*number),
-        }),
+        Expr::Channel { place, number } => {
+            visitor.visit(usize::from(*place) + 1, Name::Channel(*number))
+        }
         Expr::Stream {
             place,
             number,
             drop,
-        } => visitor.visit(Use {
-            place: usize::from(*place) + 1,
-            name: Name::Stream(*number, *drop),
-        }),
+        } => visitor.visit(usize::from(*place) + 1, Name::Stream(*number, *drop)),
         Expr::Unary { operand, .. } | Expr::Cast { operand, .. } => {
             visit_expression(operand, visitor)
         }

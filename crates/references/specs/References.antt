@@ -7,8 +7,7 @@ use Rattle.syntax.specs.declared.record.Kind.TheVariants.{Channel, Stream}
 use Rattle.syntax.specs.Entries.{Entry, kind_of, kind_code, count}
 use Rattle.names.specs.declared.uses.Name.{Name}
 use Rattle.names.specs.declared.uses.Name.TheVariants as name
-use Rattle.names.specs.declared.uses.Use.{Use}
-use Rattle.names.specs.Uses.{uses_of}
+use Rattle.names.specs.Uses.{Use, uses_of}
 use Rattle.references.specs.declared.reference.Id.{Id}
 use Rattle.references.specs.declared.reference.Reference.{Reference}
 

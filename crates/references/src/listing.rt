@@ -4,7 +4,7 @@ ghost use Rattle.syntax.specs.Entries.{entry_of};
 ghost use Rattle.references.specs.References.{refer, references};
 
 use crate::reference::{Id, Reference};
-use names::uses::{Name, Use, Visitor, visit_record};
+use names::uses::{Name, Visitor, visit_record};
 use std::alloc::{AllocError, Global};
 use syntax::record::{Kind, Record, count};
 
@@ -32,8 +32,8 @@ impl<'a> Visitor for Listing<'a> {
 
     ghost stops = { Prim.search rules };
 
-    fn visit(&mut self, used: Use) -> Result<(), AllocError> {
-        let (kind, number, drop) = match used.name {
+    fn visit(&mut self, _place: usize, name: Name) -> Result<(), AllocError> {
+        let (kind, number, drop) = match name {
             Name::Channel(number) => (Kind::Channel, number, 0),
             Name::Stream(number, drop) => (Kind::Stream, number, drop),
         };

@@ -14,8 +14,7 @@ use Rattle.syntax.specs.Trees as tree
 use Rattle.syntax.specs.Written.{Bounded, Small}
 use Rattle.names.specs.declared.uses.Name.{Name}
 use Rattle.names.specs.declared.uses.Name.TheVariants as name
-use Rattle.names.specs.declared.uses.Use.{Use}
-use Rattle.names.specs.Uses.{uses, gathered, uses_of, uses_in}
+use Rattle.names.specs.Uses.{Use, uses, gathered, uses_of, uses_in}
 use Rattle.names.specs.Declaring.{declares, named}
 use Rattle.references.specs.declared.reference.Id.{Id}
 use Rattle.references.specs.References.{refer_name, refer, id_after, references}
