@@ -10,11 +10,11 @@ use crate::ordered::OrderedRecords;
 use crate::walking::weigh_walks;
 use arrayvec::ArrayVec;
 use faults::cause::Cause;
+use faults::stop::Stop;
 use layout::layout::Layout;
 use std::alloc::Global;
 use std::fmt;
 use syntax::record;
-use faults::stop::Stop;
 use walks::graph::{Graph, NODES, RINGS, STREAMS};
 use walks::sheet::Sheet;
 

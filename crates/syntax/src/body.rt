@@ -9,9 +9,9 @@ ghost use Rattle.syntax.specs.declared.record.Kind.TheVariants as kinds;
 use crate::part::Part;
 use crate::reader::Reader;
 use crate::record::{Kind, Record, Rule, Stream};
-use faults::stop::Stop;
 use crate::tree::DEPTH;
 use faults::cause::Cause;
+use faults::stop::Stop;
 use std::alloc::Global;
 
 impl<'a> Reader<'a> {

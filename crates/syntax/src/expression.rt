@@ -4,8 +4,8 @@ ghost use Rattle.syntax.specs.Trees.{exp};
 ghost use Rattle.syntax.specs.Readers.{Reads};
 
 use crate::reader::Reader;
-use faults::stop::Stop;
 use crate::tree::{Expr, Node};
+use faults::stop::Stop;
 use std::alloc::Global;
 
 impl<'a> Reader<'a> {

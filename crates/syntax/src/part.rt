@@ -8,8 +8,8 @@ ghost use Rattle.syntax.specs.Trees.{Exp, exp};
 ghost use Rattle.values.specs.declared.value.Value.{Value};
 
 use crate::reader::Reader;
-use faults::stop::Stop;
 use crate::tree::Expr;
+use faults::stop::Stop;
 use std::alloc::Global;
 use values::types::Type;
 use values::value::Value;

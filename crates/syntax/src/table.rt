@@ -7,8 +7,8 @@ ghost use Rattle.syntax.specs.Written.{AcceptsWritten};
 
 use crate::reader::Reader;
 use crate::record::{Kind, Record, count};
-use faults::stop::Stop;
 use faults::cause::Cause;
+use faults::stop::Stop;
 use std::alloc::Global;
 
 // The version of the format, the first byte of a table.

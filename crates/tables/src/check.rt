@@ -4,9 +4,9 @@ ghost use Rattle.tables.specs.Checking.{checked, Counted};
 ghost use Rattle.tables.specs.Lines.{line};
 
 use crate::reading::read_checked;
+use faults::stop::Stop;
 use std::alloc::{AllocError, Global};
 use syntax::record::Counts;
-use faults::stop::Stop;
 
 // Counts the records of a table that is read and typed; or says why the bytes are none.
 pub fn check(alloc: Global, bytes: &[u8]) -> Result<Counts, Stop>

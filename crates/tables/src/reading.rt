@@ -1,10 +1,10 @@
 // The records of a table that is read and typed.
 ghost use Rattle.tables.specs.Checking.{Reads};
 
+use faults::stop::Stop;
 use names::declared::check_names;
 use std::alloc::Global;
 use syntax::record::Record;
-use faults::stop::Stop;
 use syntax::table::read_table;
 use typing::typed::check_types;
 

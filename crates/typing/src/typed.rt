@@ -7,9 +7,9 @@ ghost use Rattle.typing.specs.Judging.{fits, judged, entry_judged, Typed};
 use crate::rules::{place, settled};
 use crate::scope::Scope;
 use faults::cause::Cause;
+use faults::stop::Stop;
 use std::alloc::Global;
 use syntax::record::Record;
-use faults::stop::Stop;
 use syntax::tree::{DEPTH, Expr};
 use values::types::Type;
 

@@ -5,7 +5,9 @@ use crate::edge::Edge;
 
 // How many channels, streams and rules the largest graph has.
 pub const CHANNELS: usize = 16;
+
 pub const STREAMS: usize = 32;
+
 pub const RULES: usize = 16;
 
 // How many rings: one for each channel and each stream.
