@@ -4,9 +4,6 @@ use Rattle.search.proofs.Searches.{at_start, kept_same, kept_open, kept_first, k
 use Rattle.search.proofs.closed.least_closed.Goals.{in-Some, in_default}
 use Rattle.search.proofs.closed.least_closed.Goals as goal
 
-pub first_arrival-requires : goal.first_arrival-requires
-first_arrival-requires c = omega (arith, c.min-most.ensures, c.loop-node.invariant.within)
-
 pub loop-node-preserved : goal.loop-node-preserved
 loop-node-preserved c = elim c.match-first_arrival.branch [
   | in-Some w ↦
