@@ -19,10 +19,6 @@ zeros_at zero b = refl
 zeros_at (suc n) zero = refl
 zeros_at (suc n) (suc b) = zeros_at n b
 
-pub heights_more : (es : List Edge) (m : ℕ) → heights es (m + 1) ≡ climbed es (heights es m)
-unfolding heights
-heights_more es m = ap (heights es) (let q : m + 1 ≡ suc m = omega arith in q)
-
 -- one climb goes at most 4033 up, which is the greatest steep weight
 pub folded_low : (es : List Edge) → AllByRecursion Bounded es → (b : ℕ) (from : List ℕ) → Low b from → Low (b + 4033) (fold (topped (height_over from)) from es)
 folded_low es bounded b from low s =

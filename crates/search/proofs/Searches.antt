@@ -7,7 +7,6 @@ use Rattle.walks.specs.declared.edge.Edge.{Edge}
 use Rattle.search.specs.declared.row.Arrival.{Arrival}
 use Rattle.search.specs.Rows.{layer, alone, reaches}
 use Rattle.search.specs.Arrivals.{Aim, ring, Unreached, Reached, Missed, First, Open, Unclosed, Fewest}
-use Rattle.search.proofs.Rows.{reaches_less}
 
 -- ---- nodes
 -- the first number of a range that comes up to z, as a search over the range finds it
@@ -46,10 +45,6 @@ module _ (es : List Edge) (s : List (Option ℕ)) (t : Aim) where
       at = subst (λ (x : List (Option ℕ)). Reached x t.first t.end (64 * k + t.over) b) is here;
       before = none;
     }
-
-pub first_reached : (es : List Edge) (s : List (Option ℕ)) (t : Aim) (limit : ℕ) (f : Arrival) → First es s t limit f →
-    reaches (get_or (layer es s f.length) f.node None) 0 ≡ true
-first_reached es s t limit f first = reaches_less (get_or (layer es s f.length) f.node None) 0 (64 * f.length + t.over) (omega arith) first.at.here
 
 -- ---- starts
 -- what holds at the row, the target and the limit of a start

@@ -35,9 +35,6 @@ module _ {X : Type 0} (one : ℕ → Found X) where
   many_none at = refl
 
   module _ (whole : Found (List X)) where
-    pub many_start : (k at : ℕ) → whole ≡ many one k at → whole ≡ onto [] (many one (k - 0) at)
-    many_start k at e = e ∙ onto_none (many one k at) ∙ ap (λ n. onto [] (many one n at)) (omega arith)
-
     pub many_more : (items : List X) (k i at : ℕ) (x : X) (n : ℕ) → i < k → one at ≡ Ok (x, n) → whole ≡ onto items (many one (k - i) at) → whole ≡ onto (items ++ (x ∷ [])) (many one (k - (i + 1)) n)
     many_more items k i at x n h e w =
         let s : k - i ≡ suc (k - (i + 1)) = omega arith in
