@@ -17,7 +17,7 @@ pub fn find_channel_walk(graph: &Graph, sheet: &mut Sheet<'_>) -> Option<usize>
     ensures same { sheet.new.entries.ghost_name ≡ sheet.old.entries.ghost_name }
 {
     let start = Start::everywhere();
-    let target = Target::channels(graph.channels);
+    let target = Target::channels(graph);
     let found = first_arrival(graph, start, target, graph.streams + 1)?;
     list_walk(graph, start, found, sheet.entries);
     Some(found.length)

@@ -1,6 +1,8 @@
 // What a search looks for.
 ghost use Rattle.std.specs.Prelude.{◌≡◌, ◌<◌, ◌≤◌};
 
+use walks::graph::Graph;
+
 // What a walk is to come to: a node from `first` on below `end`, with a weight of `over` or more.
 // Two numbers, since a range is not copied, and each length needs it anew.
 #[derive(Clone, Copy)]
@@ -27,14 +29,13 @@ impl Target {
         }
     }
 
-    // Any channel, with a weight of more than 0.
-    pub(crate) fn channels(channels: usize) -> Target
-        requires { channels ≤ 64 }
-        ensures { aim result ≡ outside channels }
+    // Any channel of a graph, with a weight of more than 0.
+    pub(crate) fn channels(graph: &Graph) -> Target
+        ensures { aim result ≡ outside graph.now.channels }
     {
         Target {
             first: 0,
-            end: channels,
+            end: graph.channels,
             over: 1,
         }
     }
