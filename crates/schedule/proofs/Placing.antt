@@ -13,8 +13,7 @@ use Rattle.references.specs.References.{references}
 use Rattle.walks.specs.Edges.{Fit, Fits}
 use Rattle.syntax.specs.declared.record.Counts.{Counts}
 use Rattle.schedule.specs.declared.nodes.Nodes.{Nodes}
-use Rattle.syntax.specs.Counting.{counts_of}
-use Rattle.schedule.specs.Edges.{Valid, Stands, Orderly, node_by, id_by, node, id_at, described, no_node, Describes, Near, node_in, told_in, edge_by, edge, edges}
+use Rattle.schedule.specs.Edges.{Valid, Stands, Orderly, node_by, id_by, node, id_at, described, no_node, Describes, node_in, told_in, edge_by, edge, edges}
 use Rattle.schedule.specs.Plans.{ring_count}
 use Rattle.schedule.proofs.Describing.{openings_few}
 
@@ -78,15 +77,6 @@ module _ (rs : List Entry) (o : Orderly rs) where
   read_kind Channel n h l = omega arith
   read_kind Stream n h l = omega arith
   read_kind Rule n h l = absurd (h refl)
-
-  near : (r : Reference) → Stands rs r → Near (counts_of rs) r
-  near r s = record {
-    reader = node_kind r.reader.kind r.reader.number s.reader;
-    read = node_kind r.read.kind r.read.number s.read;
-  }
-
-  pub all_near : (ns : Counts) → ns ≡ counts_of rs → AllByRecursion (Near ns) (references [] rs)
-  all_near ns e = subst (λ (n : Counts). AllByRecursion (Near n) (references [] rs)) (sym e) (All-weaker (Stands rs) (Near (counts_of rs)) near (references [] rs) o.stand)
 
   fit : (r : Reference) → Stands rs r → Fit (count Channel rs) (count Stream rs) (edge rs r)
   unfolding node

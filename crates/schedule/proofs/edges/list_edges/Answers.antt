@@ -1,16 +1,9 @@
-use Rattle.std.proofs.Common.{◌≡◌, List, map, sym, ap, ◌∙◌, subst}
-use Rattle.std.specs.List.{AllByRecursion}
+use Rattle.std.proofs.Common.{◌≡◌, List, map, ap, ◌∙◌}
 use Rattle.std.proofs.lemmas.Result.{IfOk-weaker}
 use Rattle.syntax.specs.Entries.{Entry, entry_of}
-use Rattle.schedule.specs.Edges.{Near, edge_by, edges}
-use Rattle.schedule.proofs.Placing.{all_near, edges_same}
+use Rattle.schedule.specs.Edges.{edge_by, edges}
+use Rattle.schedule.proofs.Placing.{edges_same}
 use Rattle.schedule.proofs.edges.list_edges.Goals as goal
-
-pub make_edges-requires : goal.make_edges-requires
-make_edges-requires c =
-    let rs : List Entry = map entry_of c.args.ordered.now.records.now in
-    subst (AllByRecursion (Near c.new.result.numbering.counts)) (sym (c.deref.ensures.value ∙ c.in_ok-references.ensures))
-    (all_near rs c.args.ordered.now.orderly c.new.result.numbering.counts c.new.ensures.counts)
 
 pub returns : goal.returns
 returns c =
