@@ -15,7 +15,7 @@ point() {
     # A clause on a parameter that stands in three functions or more, and parameters that travel together.
     5) src 'requires.*(length bytes\.now ≤ 8192|33 ≤ length sheet|Bounded|Low |Fits|InOrder)|\bat: usize|channels: usize, streams: usize' ;;
     # Arrays of a fixed size, and a length beside a buffer.
-    6) src '(: |-> |Row = )&?(mut )?\[.*; (32|33|34|48|64|NODES)\]|let mut (filled|room) =' ;;
+    6) src '(: |-> |Row = )&?(mut )?\[.*; (32|33|34|48|64|NODES|STREAMS|RINGS|ROWS|LEAST_SHEET)\]|let mut (filled|room) =' ;;
     # A choice of the step to run.
     7) src 'match report|read_(values|expressions)\(' ;;
     # Answers, and lemmas.

@@ -19,6 +19,7 @@ fn tell(alloc: Global, text: &str) -> Result<String, AllocError>
     tell_line(alloc, text, |bytes| line::tell(alloc, bytes))
 }
 
+// The same in both programs of vectors: of one function for both a contract could say nothing, since it knows no byte of standard input.
 fn run(rt: &HostRuntime) -> anyhow::Result<()> {
     let alloc = rt.alloc();
     let input = BufReader::new(alloc, rt.stdin())?;

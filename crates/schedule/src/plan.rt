@@ -46,7 +46,7 @@ pub struct Ring {
 }
 
 // The plan of a table. Rings are numbered as records are: the channels first, then the streams.
-#[derive(Drop)]
+#[derive(Clone, Drop)]
 pub struct Plan {
     pub counts: Counts,
     // The lead of each record that has a ring, by the ring's number.
