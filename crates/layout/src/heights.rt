@@ -8,7 +8,7 @@ use walks::graph::{Graph, NODES};
 
 // One edge's part in a climb: what it reads lies at least its steep weight above its reader.
 fn raise(from: &[u32; NODES], to: &mut [u32; NODES], edge: &Edge)
-    // Definitions make an edge of any reference, so the type of an edge can't carry its bound.
+    // No plainer in a type: that would be a second record of edges, beside the one that definitions make of any reference.
     // Nor can the type of heights, which a climb raises.
     requires bounded { Bounded edge.now }
     requires low { (Low 1000000 from.now) × (Low 1000000 to.old) }

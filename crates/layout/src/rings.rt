@@ -22,9 +22,9 @@ pub(crate) fn leads_of(heights: &[u32; NODES]) -> [u32; NODES]
 }
 
 // One edge's part in the lengths of rings: what it reads is kept until it has been read.
-// Its formula is not that of `raise`, and what they share is a greatest value; in one function the check of `examples/chain.hex` took 4.77 million instructions in place of 4.51.
+// Not one function with `raise`: the two formulas differ, and what they share is a greatest value.
 fn widen(lengths: &mut [u32; NODES], edge: &Edge, leads: &[u32; NODES])
-    // Definitions make an edge of any reference, so the type of an edge can't carry its bound.
+    // No plainer in a type: that would be a second record of edges, beside the one that definitions make of any reference.
     requires bounded { Bounded edge.now }
     requires low { Low 1000000 leads.now }
     ensures { lengths.new ≡ topped (span leads.now) lengths.old edge.now }

@@ -1,7 +1,7 @@
 // The walk of the fewest edges that arrives at a target, by the rows.
 ghost use Rattle.std.specs.Prelude.{◌≡◌, ◌+◌, ◌≤◌, MatchOption};
 ghost use Rattle.search.specs.Rows.{reaches};
-ghost use Rattle.search.specs.declared.row.TheConstants.{MOST_EDGES};
+ghost use Rattle.walks.specs.declared.graph.TheConstants.{MOST_EDGES};
 ghost use Rattle.search.specs.Arrivals.{aim, Unreached, Reached, Missed, First};
 
 use crate::row::{Arrival, Row, Start, step};
@@ -15,12 +15,11 @@ fn reaches(weight: Option<u32>, least: usize) -> bool
     weight.is_some_and(|weight| least <= weight as usize)
 }
 
-// The first node from `first` on below `end` whose place in the row comes up to `least`.
-fn find_node(row: &Row, first: usize, end: usize, least: usize) -> Option<usize>
-    requires { end ≤ 64 }
-    ensures { MatchOption result (Unreached row.now first end least) (Reached row.now first end least) }
+// The first node of the target's whose place in the row comes up to `least`.
+fn find_node(row: &Row, target: &Target, least: usize) -> Option<usize>
+    ensures { MatchOption result (Unreached row.now target.now.first target.now.end least) (Reached row.now target.now.first target.now.end least) }
 {
-    (first..end).find(|node| reaches(row[*node], least))
+    (target.first..target.end).find(|node| reaches(row[*node], least))
 }
 
 // The first arrival at the target by a walk of 1 to `limit` edges that begins as `start` says.
@@ -38,7 +37,7 @@ pub(crate) fn first_arrival(
     for length in 1..=limit {
         row = step(graph, &row);
         let least = 64 * length + target.over;
-        if let Some(node) = find_node(&row, target.first, target.end, least) {
+        if let Some(node) = find_node(&row, &target, least) {
             return Some(Arrival { node, length });
         }
     }

@@ -7,9 +7,9 @@ ghost use Rattle.search.specs.declared.row.TheConstants.{MOST_WEIGHT};
 ghost use Rattle.search.specs.Rows.{Low, layer, into, reaches};
 ghost use Rattle.search.specs.Listings.{Layers, Listed};
 
-use crate::row::{Arrival, MOST_EDGES, Row, Start, lift, step};
+use crate::row::{Arrival, Row, Start, lift, step};
 use walks::edge::{Edge, SheetEntry};
-use walks::graph::Graph;
+use walks::graph::{Graph, MOST_EDGES};
 
 // How many rows there are at most: of walks of 0 edges, and of each length up to the most.
 const ROWS: usize = MOST_EDGES + 1;
@@ -29,7 +29,7 @@ fn layers(graph: &Graph, start: Start, arrival: Arrival) -> [Row; ROWS]
 
 // Whether an edge leads from the row to the weight `left` at `node`.
 fn leads_into(from: &Row, edge: &Edge, node: usize, left: u32) -> bool
-    // Definitions make an edge of any reference, so the type of an edge can't carry its bound.
+    // No plainer in a type: that would be a second record of edges, beside the one that definitions make of any reference.
     // Nor can the type of rows, whose bound a step raises.
     requires bounded { Bounded edge.now }
     requires low { AllByRecursion (Low MOST_WEIGHT) from.now }

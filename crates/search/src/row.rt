@@ -2,14 +2,12 @@
 ghost use Rattle.std.specs.Prelude.{◌≡◌, ◌<◌, ◌≤◌};
 ghost use Rattle.std.specs.List.{AllByRecursion};
 ghost use Rattle.walks.specs.Edges.{Bounded};
-ghost use Rattle.search.specs.declared.row.TheConstants.{MOST_EDGES, MOST_WEIGHT};
+ghost use Rattle.walks.specs.declared.graph.TheConstants.{MOST_EDGES};
+ghost use Rattle.search.specs.declared.row.TheConstants.{MOST_WEIGHT};
 ghost use Rattle.search.specs.Rows.{lift, Low, Starts-prop, extended, stepped, alone, everywhere};
 
 use walks::edge::Edge;
 use walks::graph::{Graph, NODES};
-
-// How many edges a walk has at most that comes to no node twice: one from each stream and one from a rule.
-pub(crate) const MOST_EDGES: usize = 33;
 
 // What stands in a row at most before a step.
 const MOST_WEIGHT: u32 = 8192;
@@ -21,7 +19,7 @@ pub(crate) type Row = [Option<u32>; NODES];
 
 // What an edge weighs, and 64, so that it is never less than 0.
 pub(crate) fn lift(edge: &Edge) -> u32
-    // Definitions make an edge of any reference, so the type of an edge can't carry its bound.
+    // No plainer in a type: that would be a second record of edges, beside the one that definitions make of any reference.
     requires { Bounded edge.now }
     ensures { result ≡ lift edge.now }
 {
@@ -30,7 +28,7 @@ pub(crate) fn lift(edge: &Edge) -> u32
 
 // One edge's part in a step; most often the place is no lower already, and nothing is written.
 fn extend(from: &Row, to: &mut Row, edge: &Edge)
-    // Definitions make an edge of any reference, so the type of an edge can't carry its bound.
+    // No plainer in a type: that would be a second record of edges, beside the one that definitions make of any reference.
     // Nor can the type of rows, whose bound a step raises.
     requires bounded { Bounded edge.now }
     requires low { AllByRecursion (Low MOST_WEIGHT) from.now }

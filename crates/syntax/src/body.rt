@@ -14,6 +14,10 @@ use faults::cause::Cause;
 use faults::stop::Stop;
 use std::alloc::Global;
 
+// How many opening values a stream has at most, and how many arguments a rule.
+const MOST_OPENING: u8 = 64;
+const MOST_ARGUMENTS: u8 = 4;
+
 impl<'a> Reader<'a> {
     // So many parts, one after another.
     fn read_many<P: Part>(
@@ -48,7 +52,7 @@ impl<'a> Reader<'a> {
         ensures { Reads entry_of self.old self.new result (body kinds.Stream self.old.bytes.now self.old.at) }
     {
         let ty = self.read_type()?;
-        let count = self.read_count(64)?;
+        let count = self.read_count(MOST_OPENING)?;
         let opening = self.read_many(alloc, ty, count)?;
         let body = self.read_expression(alloc, DEPTH)?;
         Ok(Record::Stream(Stream { ty, opening, body }))
@@ -58,7 +62,7 @@ impl<'a> Reader<'a> {
     fn read_rule(&mut self, alloc: Global) -> Result<Record, Stop>
         ensures { Reads entry_of self.old self.new result (body kinds.Rule self.old.bytes.now self.old.at) }
     {
-        let count = self.read_count(4)?;
+        let count = self.read_count(MOST_ARGUMENTS)?;
         let guard = self.read_expression(alloc, DEPTH)?;
         let arguments = self.read_many(alloc, DEPTH, count)?;
         Ok(Record::Rule(Rule { guard, arguments }))

@@ -6,7 +6,7 @@ ghost use Rattle.syntax.specs.Codes.{op_coded};
 use operators::operator::{Binary, Unary};
 use values::types::UnknownCode;
 
-// What an expression's code says.
+// What an expression's code says: the cases of a `Node` without what the bytes after the code say.
 #[derive(Clone, Copy)]
 pub(crate) enum Op {
     Constant,

@@ -11,6 +11,9 @@ use faults::cause::Cause;
 use values::types::Type;
 use values::value::Value;
 
+// How many indexes ahead a stream is named at most.
+const MOST_DROP: u8 = 63;
+
 impl<'a> Reader<'a> {
     // A byte is missing, which is refused at the end.
     fn missing(&self) -> Cause
@@ -71,7 +74,7 @@ impl<'a> Reader<'a> {
             Op::Stream => {
                 let number = self.byte()?;
                 let drop = self.byte()?;
-                if drop > 63 {
+                if drop > MOST_DROP {
                     return Err(Cause::Limit(at + 2));
                 }
                 Ok(Node::Stream(number, drop))

@@ -29,7 +29,8 @@ impl<'a> Reader<'a> {
         if at + 1 >= bytes.len() {
             return Err(Cause::Ended(at));
         }
-        let end = at + 2 + usize::from(bytes[at]) * 256 + usize::from(bytes[at + 1]);
+        let length = u16::from_be_bytes([bytes[at], bytes[at + 1]]);
+        let end = at + 2 + usize::from(length);
         if end > bytes.len() {
             return Err(Cause::Ended(at));
         }
@@ -78,7 +79,7 @@ pub fn read_table(alloc: Global, bytes: &[u8]) -> Result<Vec<Record>, Stop>
     ensures answer { Yields (Begun bytes.now) result (read_table bytes.now) }
     ensures law { AcceptsWritten bytes.now }
 {
-    if bytes.is_empty() || bytes[0] != VERSION {
+    if bytes.first() != Some(&VERSION) {
         return Err(Stop::Refused(Cause::Version));
     }
     if bytes.len() > MOST_BYTES {

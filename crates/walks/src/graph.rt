@@ -13,6 +13,9 @@ pub const RULES: usize = 16;
 // How many rings: one for each channel and each stream.
 pub const RINGS: usize = CHANNELS + STREAMS;
 
+// How many edges a walk has at most that comes to no node twice: one from each stream and one from a rule.
+pub const MOST_EDGES: usize = STREAMS + 1;
+
 // How many nodes.
 pub const NODES: usize = RINGS + RULES;
 
