@@ -79,7 +79,7 @@ pub fn read_table(alloc: Global, bytes: &[u8]) -> Result<Vec<Record>, Stop>
     ensures answer { Yields (Begun bytes.now) result (read_table bytes.now) }
     ensures law { AcceptsWritten bytes.now }
 {
-    if bytes.first() != Some(&VERSION) {
+    if bytes.is_empty() || bytes[0] != VERSION {
         return Err(Stop::Refused(Cause::Version));
     }
     if bytes.len() > MOST_BYTES {
