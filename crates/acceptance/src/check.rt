@@ -65,7 +65,7 @@ impl Table {
         ensures answer { Answers self.old self.new bytes.now sheet.old sheet.new result }
         ensures law { Decided bytes.now sheet.old result }
     {
-        // A match: of `map_err` a proof learns too little of what its closure answered.
+        // A match: tried with `map_err`, the proofs of both clauses stayed open, as what its closure answered has no name there.
         let table = match accept(alloc, bytes, sheet) {
             Ok(table) => table,
             Err(stop) => return Err(stop.made_by(Layer::Table)),

@@ -10,7 +10,7 @@ use std::alloc::{AllocError, Global};
 use walks::edge::SheetEntry;
 use walks::sheet::LEAST_SHEET;
 
-// A sheet with nothing listed in it yet.
+// A sheet with nothing listed in it yet; an array, since the room of a walk is fixed.
 pub const BLANK_SHEET: [SheetEntry; LEAST_SHEET] = [SheetEntry {
     reader: 0,
     read: 0,
@@ -21,6 +21,7 @@ pub const BLANK_SHEET: [SheetEntry; LEAST_SHEET] = [SheetEntry {
 #[derive(Clone, Copy)]
 pub struct Outcome {
     pub answer: Result<Counts, Rejection>,
+    // The sheet that was lent.
     pub sheet: [SheetEntry; LEAST_SHEET],
 }
 
@@ -57,8 +58,7 @@ impl Outcome {
     {
         let mut text = self.write_line(alloc)?;
         for entry in self.sheet.iter().copied().take(self.count_listed()) {
-            let line = format!(in alloc; "\n{entry}")?;
-            text.push_str(&line)?;
+            write!(text, "\n{entry}")?;
         }
         Ok(text)
     }
