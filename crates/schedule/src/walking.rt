@@ -1,5 +1,5 @@
 // The walks of a table: a layout of its values where no walk is to blame.
-ghost use Rattle.std.specs.Prelude.{◌≡◌, ℕ, ◌<◌, ◌≤◌, MatchBool, slice_index};
+ghost use Rattle.std.specs.Prelude.{◌≡◌, ℕ, ◌<◌, MatchBool, slice_index};
 ghost use Rattle.schedule.specs.Walking.{Weighed};
 
 use faults::cause::Cause;
@@ -10,11 +10,10 @@ use walks::graph::{Graph, NODES};
 use walks::sheet::Sheet;
 
 // Whether some channel leads: then a walk to it weighs more than 0.
-fn channel_leads(leads: &[u32; NODES], channels: usize) -> bool
-    requires { channels ≤ 64 }
-    ensures { MatchBool result ((c : ℕ) × (c < channels) × (0 < slice_index leads.now c)) ((c : ℕ) → c < channels → slice_index leads.now c ≡ 0) }
+fn channel_leads(graph: &Graph, leads: &[u32; NODES]) -> bool
+    ensures { MatchBool result ((c : ℕ) × (c < graph.now.channels) × (0 < slice_index leads.now c)) ((c : ℕ) → c < graph.now.channels → slice_index leads.now c ≡ 0) }
 {
-    leads[..channels].iter().any(|lead| *lead > 0)
+    leads[..graph.channels].iter().any(|lead| *lead > 0)
 }
 
 // The layout of a table's edges, or the walk against it, which is then told in the sheet's first entries.
@@ -23,16 +22,14 @@ pub(crate) fn weigh_walks(graph: &Graph, sheet: &mut Sheet<'_>) -> Result<Layout
     ensures same { sheet.new.entries.ghost_name ≡ sheet.old.entries.ghost_name }
 {
     let Some(layout) = lay_out(graph) else {
-        return match find_closed_walk(graph, sheet) {
-            Some(references) => Err(Cause::ClosedWalk(references)),
-            None => unreachable(),
-        };
+        // Where there is no layout, some closed walk weighs 0 or more.
+        let references = find_closed_walk(graph, sheet).unwrap();
+        return Err(Cause::ClosedWalk(references));
     };
-    if channel_leads(&layout.leads, graph.channels) {
-        return match find_channel_walk(graph, sheet) {
-            Some(references) => Err(Cause::ChannelWalk(references)),
-            None => unreachable(),
-        };
+    if channel_leads(graph, &layout.leads) {
+        // Its lead is the weight of a walk to it.
+        let references = find_channel_walk(graph, sheet).unwrap();
+        return Err(Cause::ChannelWalk(references));
     }
     Ok(layout)
 }
