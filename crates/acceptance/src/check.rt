@@ -13,7 +13,6 @@ use schedule::plan::{Counts, Plan, make_plan};
 use std::alloc::{AllocError, Global};
 use tables::reading::read_checked;
 use walks::edge::SheetEntry;
-use walks::graph::NODES;
 use walks::sheet::{LEAST_SHEET, Sheet};
 
 // The table that the bytes write; or why they write none, with a walk to blame in the sheet's first entries.
@@ -43,7 +42,6 @@ impl Table {
         let bytes = vec![in alloc; 1u8]?;
         let plan = Plan {
             counts: Counts::default(),
-            leads: [0; NODES],
             order: ArrayVec::new(),
             rings: ArrayVec::new(),
         };

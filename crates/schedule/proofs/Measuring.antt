@@ -1,5 +1,5 @@
 -- Leads and ring lengths of nodes are those of records. Assumes nothing.
-use Rattle.std.proofs.Common.{◌≡◌, ℕ, ◌+◌, ◌<◌, List, [], ◌∷◌, get_or, ℤ, pos, ◌+ℤ◌, ◌-ℤ◌, sym, refl, ap, ◌∙◌, inl, inr, arith}
+use Rattle.std.proofs.Common.{◌≡◌, ℕ, ◌+◌, ◌<◌, List, [], ◌∷◌, get_or, ℤ, pos, ◌+ℤ◌, ◌-ℤ◌, sym, ap, ◌∙◌, subst, inl, inr, arith}
 use Rattle.std.proofs.lemmas.Int.{ints}
 use Rattle.syntax.specs.declared.record.Kind.{Kind}
 use Rattle.syntax.specs.declared.record.Kind.TheVariants.{Channel, Stream, Rule}
@@ -20,10 +20,8 @@ use Rattle.schedule.proofs.Carrying.{in_map, from_map, stands, lead_down}
 
 module _ (rs : List Entry) (o : Orderly rs) (leads : List ℕ)
     (leading : (s : ℕ) → s < 64 → Lead (plain.graph (edges rs)) s (pos (get_or leads s 0)))
-    (settled : Settled (plain.graph (edges rs)) (plain.Channel (count Channel rs))) where
-  abbrev lead_of : ℕ → ℕ
-  lead_of s = get_or leads (count Channel rs + s) 0
-
+    (settled : Settled (plain.graph (edges rs)) (plain.Channel (count Channel rs)))
+    (lead : ℕ → ℕ) (leads_so : (s : ℕ) → s < count Stream rs → lead s ≡ get_or leads (count Channel rs + s) 0) where
   -- no walk to a channel weighs more than the empty one
   channel_lead : (n : ℕ) → n < count Channel rs → get_or leads n 0 ≡ 0
   channel_lead n l =
@@ -45,22 +43,22 @@ module _ (rs : List Entry) (o : Orderly rs) (leads : List ℕ)
           let t : Last (plain.graph (edges rs)) a (e ∷ w) (count Channel rs + count Stream rs + n) = last (plain.graph (edges rs)) a e w (count Channel rs + count Stream rs + n) p in
           absurd (omega (arith, t.ends, (fit_in (count Channel rs) (count Stream rs) (edges rs) (all_fit rs o) t.ref t.listed).read))
 
-  pub lead_same : (id : Id) → Valid rs id → lead_by lead_of id ≡ pos (get_or leads (node rs id) 0)
+  pub lead_same : (id : Id) → Valid rs id → lead_by lead id ≡ pos (get_or leads (node rs id) 0)
   unfolding node
   lead_same id valid = go id.kind id.number valid
     where
-      go : (k : Kind) (n : ℕ) → n < count k rs → lead_of_kind lead_of k n ≡ pos (get_or leads (node_by (count Channel rs) (count Stream rs) k n) 0)
+      go : (k : Kind) (n : ℕ) → n < count k rs → lead_of_kind lead k n ≡ pos (get_or leads (node_by (count Channel rs) (count Stream rs) k n) 0)
       go Channel n l = ap pos (sym (channel_lead n l))
-      go Stream n l = refl
+      go Stream n l = ap pos (leads_so n l)
       go Rule n l = ap pos (sym (rule_lead n l))
 
-  reach_same : (r : Reference) → In r (references [] rs) → reach (graph rs) (lead_by lead_of) r ≡ reach (plain.graph (edges rs)) (λ s. pos (get_or leads s 0)) (edge rs r)
+  reach_same : (r : Reference) → In r (references [] rs) → reach (graph rs) (lead_by lead) r ≡ reach (plain.graph (edges rs)) (λ s. pos (get_or leads s 0)) (edge rs r)
   reach_same r m = ap (λ (z : ℤ). z +ℤ (graph rs).weight r) (lead_same r.reader (stands rs o r m).reader)
 
-  ring_down : (q size : ℕ) → q < ring_count rs → Ring (plain.graph (edges rs)) (λ s. pos (get_or leads s 0)) q size → Ring (graph rs) (lead_by lead_of) (id_at rs q) size
+  ring_down : (q size : ℕ) → q < ring_count rs → Ring (plain.graph (edges rs)) (λ s. pos (get_or leads s 0)) q size → Ring (graph rs) (lead_by lead) (id_at rs q) size
   ring_down q size l k =
       let (valid, at) = ring_node rs q l in
-      let own : lead_by lead_of (id_at rs q) ≡ pos (get_or leads q 0) = lead_same (id_at rs q) valid ∙ ap (λ (m : ℕ). pos (get_or leads m 0)) at in
+      let own : lead_by lead (id_at rs q) ≡ pos (get_or leads q 0) = lead_same (id_at rs q) valid ∙ ap (λ (m : ℕ). pos (get_or leads m 0)) at in
       record {
         least = k.least;
         own = omega (arith, ints, k.own);
@@ -79,9 +77,10 @@ module _ (rs : List Entry) (o : Orderly rs) (leads : List ℕ)
         is = k.is ∙ ap (λ (z : ℤ). (z -ℤ k.least) +ℤ pos 1) (sym own);
       }
 
-  pub measured : (lengths : List ℕ) → ((q : ℕ) → q < 64 → Ring (plain.graph (edges rs)) (λ s. pos (get_or leads s 0)) q (get_or lengths q 0)) → Measured rs lead_of (λ q. get_or lengths q 0)
+  pub measured : (lengths : List ℕ) → ((q : ℕ) → q < 64 → Ring (plain.graph (edges rs)) (λ s. pos (get_or leads s 0)) q (get_or lengths q 0)) → Measured rs lead (λ q. get_or lengths q 0)
   unfolding node
   measured lengths rings = record {
-    leads = λ s l. lead_down rs o (stream s) (pos (lead_of s)) l (leading (count Channel rs + s) (omega (arith, o.few Channel, o.few Stream)));
+    leads = λ s l. lead_down rs o (stream s) (pos (lead s)) l
+        (subst (λ (n : ℕ). Lead (plain.graph (edges rs)) (count Channel rs + s) (pos n)) (sym (leads_so s l)) (leading (count Channel rs + s) (omega (arith, o.few Channel, o.few Stream))));
     lengths = λ q l. ring_down q (get_or lengths q 0) l (rings q (omega (arith, o.few Channel, o.few Stream)));
   }

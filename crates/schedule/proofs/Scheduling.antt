@@ -33,46 +33,46 @@ module _ (rs : List Entry) (o : Orderly rs) where
   blames_down old new c (inr (k, is, falls, t)) = inr (k, is, falls_down rs o falls, ahead_down rs o old new k t)
 
   module _ (l : Layout) (laid : layouts.Laid (count Channel rs) (count Stream rs) (edges rs) l) (settled : Settled (plain.graph (edges rs)) (plain.Channel (count Channel rs))) where
-    abbrev lead_of : ℕ → ℕ
-    lead_of s = get_or l.leads (count Channel rs + s) 0
+    module _ (lead : ℕ → ℕ) (leads_so : (s : ℕ) → s < count Stream rs → lead s ≡ get_or l.leads (count Channel rs + s) 0) where
+      ordered : Ordered rs lead l.order.items
+      unfolding node
+      ordered = record {
+        long = laid.order.long;
+        every = laid.order.every;
+        within = laid.order.stream;
+        before = λ r m newest i j li lj read reader.
+            let s = stands rs o r m in
+            laid.order.before (edge rs r) (in_map (edge rs) r (references [] rs) m)
+            (sym (lead_same rs o l.leads laid.leads settled lead leads_so r.read s.read) ∙ newest ∙ ap (λ (z : ℤ). z +ℤ (graph rs).weight r) (lead_same rs o l.leads laid.leads settled lead leads_so r.reader s.reader))
+            i j li lj (sym (ap (node rs) read)) (sym (ap (node rs) reader));
+      }
 
-    ordered : Ordered rs lead_of l.order.items
-    unfolding node
-    ordered = record {
-      long = laid.order.long;
-      every = laid.order.every;
-      within = laid.order.stream;
-      before = λ r m newest i j li lj read reader.
-          let s = stands rs o r m in
-          laid.order.before (edge rs r) (in_map (edge rs) r (references [] rs) m)
-          (sym (lead_same rs o l.leads laid.leads settled r.read s.read) ∙ newest ∙ ap (λ (z : ℤ). z +ℤ (graph rs).weight r) (lead_same rs o l.leads laid.leads settled r.reader s.reader))
-          i j li lj (sym (ap (node rs) read)) (sym (ap (node rs) reader));
-    }
-
-    measures : Measured rs lead_of (λ q. get_or l.lengths q 0)
-    measures = measured rs o l.leads laid.leads settled l.lengths laid.rings
+      measures : Measured rs lead (λ q. get_or l.lengths q 0)
+      measures = measured rs o l.leads laid.leads settled lead leads_so l.lengths laid.rings
 
     -- a plan by the layout is a plan of the table
     planned : (channels streams rules : ℕ) (p : Plan) → channels ≡ count Channel rs → streams ≡ count Stream rs → rules ≡ count Rule rs → Places l channels streams rules p → Planned rs p
     planned channels streams rules p ec es er places =
         let some : channels + streams ≡ ring_count rs = λ i. ec i + es i in
-        let rings : (q : ℕ) → q < ring_count rs → ring_in p q ≡ ring_at l.lengths q = λ q h.
-        ap (λ (x : List Slots). get_or x q no_ring) places.rings ∙ get_or-map-range_with_len (ring_at l.lengths) 0 (channels + streams) q q no_ring (omega arith) (omega arith) in
+        let rings : (q : ℕ) → q < ring_count rs → ring_in p q ≡ ring_at l.leads l.lengths q = λ q h.
+        ap (λ (x : List Slots). get_or x q no_ring) places.rings ∙ get_or-map-range_with_len (ring_at l.leads l.lengths) 0 (channels + streams) q q no_ring (omega arith) (omega arith) in
         let long : (q : ℕ) → q < ring_count rs → length_in p q ≡ get_or l.lengths q 0 = λ q h. ap (λ r. r.length) (rings q h) in
         let slots : slots_before (λ j. get_or l.lengths j 0) (channels + streams) ≡ slots_before (length_in p) (ring_count rs) =
         ap (slots_before (λ j. get_or l.lengths j 0)) some ∙ sym (slots_same (length_in p) (λ j. get_or l.lengths j 0) (ring_count rs) long) in
-        let lead : lead_in p ≡ lead_of = λ i s. get_or (places.leads i) (channels_are i + s) 0 in
+        let leads_so : (s : ℕ) → s < count Stream rs → lead_in p s ≡ get_or l.leads (count Channel rs + s) 0 = λ s h.
+        ap (λ n. (ring_in p (n + s)).lead) channels_are ∙ ap (λ r. r.lead) (rings (count Channel rs + s) (omega (arith, h))) in
+        let known : Measured rs (lead_in p) (λ q. get_or l.lengths q 0) = measures (lead_in p) leads_so in
         record {
           falls = falls_down rs o laid.falls;
           settled = settled_down rs o settled;
           counts = places.counts ∙ (λ i. record { records = record { channels = ec i; streams = es i; rules = er i }; slots = slots i });
-          measured = subst (λ (f : ℕ → ℕ). Measured rs f (length_in p)) (sym lead) (record {
-            leads = measures.leads;
-            lengths = λ q h. subst (λ (n : ℕ). Ring (graph rs) (lead_by lead_of) (id_at rs q) n) (sym (long q h)) (measures.lengths q h);
-          });
+          measured = record {
+            leads = known.leads;
+            lengths = λ q h. subst (λ (n : ℕ). Ring (graph rs) (lead_by (lead_in p)) (id_at rs q) n) (sym (long q h)) (known.lengths q h);
+          };
           bases = λ q h. ap (λ r. r.base) (rings q h) ∙ slots_same (λ j. get_or l.lengths j 0) (length_in p) q (λ j lt. sym (long j (omega arith)));
-          rings = ap length places.rings ∙ length-map-range_with_len (ring_at l.lengths) 0 (channels + streams) ∙ some;
-          order = subst (λ (f : ℕ → ℕ). Ordered rs f p.order.items) (sym lead) (subst (λ (x : ArrayVec ℕ). Ordered rs lead_of x.items) (sym places.order) ordered);
+          rings = ap length places.rings ∙ length-map-range_with_len (ring_at l.leads l.lengths) 0 (channels + streams) ∙ some;
+          order = subst (λ (x : ArrayVec ℕ). Ordered rs (lead_in p) x.items) (sym places.order) (ordered (lead_in p) leads_so);
         }
       where
         channels_are : p.counts.records.channels ≡ count Channel rs

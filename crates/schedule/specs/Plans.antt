@@ -44,18 +44,18 @@ pub record Takes (rs : List Entry) (z : ℕ) : Type 0 where
   pub measured : Measured rs lead length
   pub total : z ≡ slots_before length (ring_count rs)
 
--- what a plan has: the lead of a stream by its number, and a ring's length by its own
-abbrev pub lead_in : Plan → ℕ → ℕ
-lead_in p s = slice_index p.leads (p.counts.records.channels + s)
-
+-- what a plan has: the rings by number, the length of each, and the lead of a stream by the stream's number
 abbrev pub no_ring : Slots
-no_ring = record { base = 0; length = 0 }
+no_ring = record { base = 0; length = 0; lead = 0 }
 
 abbrev pub ring_in : Plan → ℕ → Slots
 ring_in p q = slice_index_or p.rings.items q no_ring
 
 abbrev pub length_in : Plan → ℕ → ℕ
 length_in p q = (ring_in p q).length
+
+abbrev pub lead_in : Plan → ℕ → ℕ
+lead_in p s = (ring_in p (p.counts.records.channels + s)).lead
 
 -- the order has each stream once, and a stream that is read at its newest index comes before its reader
 pub record Ordered (rs : List Entry) (lead : ℕ → ℕ) (order : List ℕ) : Type 0 where

@@ -1,5 +1,5 @@
 // The plan of a table's values: where its rings lie, and in what order streams are evaluated.
-ghost use Rattle.std.specs.Prelude.{◌≡◌, ◌≤◌, Some, map};
+ghost use Rattle.std.specs.Prelude.{◌≡◌, ◌+◌, Some, map};
 ghost use Rattle.syntax.specs.Entries.{entry_of};
 ghost use Rattle.schedule.specs.Placements.{Consecutive, Places};
 ghost use Rattle.schedule.specs.Scheduling.{Scheduled};
@@ -15,7 +15,7 @@ use layout::layout::Layout;
 use std::alloc::Global;
 use std::fmt;
 use syntax::record;
-use walks::graph::{Graph, NODES, RINGS, STREAMS};
+use walks::graph::{Graph, RINGS, STREAMS};
 use walks::sheet::Sheet;
 
 // How many slots the rings of a table take at most.
@@ -38,19 +38,18 @@ impl fmt::Display for Counts {
     }
 }
 
-// Where a ring lies: its first slot, and how many slots it has.
+// Where a ring lies, by its first slot and how many slots it has, and its record's lead.
 #[derive(Clone, Copy, Debug, Default, PartialEq, Eq)]
 pub struct Ring {
     pub base: usize,
     pub length: usize,
+    pub lead: u32,
 }
 
 // The plan of a table. Rings are numbered as records are: the channels first, then the streams.
 #[derive(Clone, Drop)]
 pub struct Plan {
     pub counts: Counts,
-    // The lead of each record that has a ring, by the ring's number.
-    pub leads: [u32; NODES],
     // The streams by number, in an order of evaluation.
     pub order: ArrayVec<usize, STREAMS>,
     pub rings: ArrayVec<Ring, RINGS>,
@@ -63,18 +62,19 @@ pub(crate) struct Placed {
     pub(crate) slots: usize,
 }
 
-// Places so many rings of the given lengths one after another.
-fn place_rings(lengths: &[u32; NODES], count: usize) -> Placed
-    requires { count ≤ RINGS }
-    ensures { Consecutive lengths.now count result }
+// Places the rings of a graph's channels and streams one after another.
+fn place_rings(layout: &Layout, graph: &Graph) -> Placed
+    ensures { Consecutive layout.now (graph.now.channels + graph.now.streams) result }
 {
+    let count = graph.channels + graph.streams;
     let mut rings = ArrayVec::new();
     let mut slots = 0;
-    for length in &lengths[..count] {
+    for (length, lead) in layout.lengths[..count].iter().zip(&layout.leads) {
         let length = *length as usize;
         rings.push(Ring {
             base: slots,
             length,
+            lead: *lead,
         });
         slots += length;
     }
@@ -85,12 +85,7 @@ fn place_rings(lengths: &[u32; NODES], count: usize) -> Placed
 fn lay_plan(layout: Layout, graph: &Graph, rules: usize) -> Plan
     ensures { Places layout graph.now.channels graph.now.streams rules result }
 {
-    let Layout {
-        leads,
-        lengths,
-        order,
-    } = layout;
-    let Placed { rings, slots } = place_rings(&lengths, graph.channels + graph.streams);
+    let Placed { rings, slots } = place_rings(&layout, graph);
     Plan {
         counts: Counts {
             records: record::Counts {
@@ -100,8 +95,7 @@ fn lay_plan(layout: Layout, graph: &Graph, rules: usize) -> Plan
             },
             slots,
         },
-        leads,
-        order,
+        order: layout.order,
         rings,
     }
 }
