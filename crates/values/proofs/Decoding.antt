@@ -1,7 +1,10 @@
--- Bytes whose number is small enough for a type. Assumes nothing.
-use Rattle.std.proofs.Common.{◌≡◌, ℕ, ◌*◌, ◌^◌, ◌<◌, ◌≤◌, List, length, pos, Some, refl, ap, ◌∙◌, subst, arith, lit≤}
-use Rattle.std.specs.Int.Digits.{number_from_digits}
+-- The number that bytes write, as the library reads it, and when it is small enough for a type. Assumes nothing.
+use Rattle.std.proofs.Common.{◌≡◌, ℕ, ◌+◌, ◌*◌, ◌^◌, ◌<◌, ◌≤◌, List, [], ◌∷◌, length, pos, Some, refl, ap, ◌∙◌, subst, arith, lit≤}
+use Rattle.std.specs.Int.Digits.{number_from_digits, number_from_digits_after}
 use Rattle.std.proofs.lemmas.Bool.Decides.{nat_tests}
+use Rattle.std.proofs.Math.Nat.{pow-succ'}
+use Rattle.byteorder.specs.Endian.{big_number}
+use Rattle.byteorder.specs.Numbers.{big_from-cons}
 use Rattle.values.specs.declared.types.«Type».{«Type» as Ty}
 use Rattle.values.specs.declared.types.«Type».TheVariants.{Bool, Word8, Word16, Word32, Word64, Int8, Int16, Int32, Int64}
 use Rattle.values.specs.Types.{size, width}
@@ -21,7 +24,7 @@ two Int32 = lit≤ tt
 two Int64 = lit≤ tt
 
 -- a value of any type but Bool uses each bit of its bytes
-pub filled : (t : Ty) → (t ≡ Bool → ⊥) → 8 * size t ≡ width t
+pub filled : (t : Ty) → (t ≡ Bool → ⊥) → 256 ^ size t ≡ 2 ^ width t
 filled Bool no_flag = absurd (no_flag refl)
 filled Word8 no_flag = refl
 filled Word16 no_flag = refl
@@ -33,8 +36,20 @@ filled Int32 no_flag = refl
 filled Int64 no_flag = refl
 
 -- so a number that fits in as many bytes fits the type
-pub fitting : (t : Ty) (n l : ℕ) → (t ≡ Bool → ⊥) → l ≡ size t → n < 2 ^ (8 * l) → n < 2 ^ width t
-fitting t n l no_flag s h = subst (λ w. n < 2 ^ w) (ap (λ k. 8 * k) s ∙ filled t no_flag) h
+pub fitting : (t : Ty) (n l : ℕ) → (t ≡ Bool → ⊥) → l ≡ size t → n < 256 ^ l → n < 2 ^ width t
+fitting t n l no_flag s h = subst (λ m. n < m) (ap (λ k. 256 ^ k) s ∙ filled t no_flag) h
 
 pub decoded_some : (t : Ty) (bytes : List ℕ) → length bytes ≡ size t → number_from_digits 256 bytes < 2 ^ width t → decoded t bytes ≡ Some (wrap t (pos (number_from_digits 256 bytes)))
 decoded_some t bytes l h = grind (arith, nat_tests)
+
+-- digits that follow a number, by the library's sum
+digits_after : (a : ℕ) (ws : List ℕ) → number_from_digits_after 256 a ws ≡ a * 256 ^ length ws + big_number (length ws) ws
+digits_after a [] = omega arith
+digits_after a (w ∷ ws) =
+    let e = digits_after (a * 256 + w) ws in
+    let f = big_from-cons 0 (length ws) w ws in
+    rw (e, f, pow-succ' 256 (length ws)) (omega arith)
+
+-- the library's number is the number of the digits
+pub digits : (ws : List ℕ) → big_number (length ws) ws ≡ number_from_digits 256 ws
+digits ws = let e = digits_after 0 ws in omega (arith, e)

@@ -1,5 +1,4 @@
 pub mod Congruence
 pub mod Wrapping
-pub mod Places
 pub mod Decoding
 pub mod Encoding
