@@ -16,6 +16,7 @@ use std::alloc::Global;
 
 // How many opening values a stream has at most, and how many arguments a rule.
 const MOST_OPENING: u8 = 64;
+
 const MOST_ARGUMENTS: u8 = 4;
 
 impl<'a> Reader<'a> {
