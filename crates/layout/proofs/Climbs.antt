@@ -1,5 +1,5 @@
 -- The heights after a number of climbs, and the walks that they weigh. Assumes nothing.
-use Rattle.std.proofs.Common.{◌≡◌, ℕ, zero, suc, ◌+◌, ◌*◌, ◌<◌, ◌≤◌, List, [], ◌∷◌, ◌++◌, length, get_or, replicate, pos, ◌+ℤ◌, ◌≤ℤ◌, fold, sym, refl, ap, ◌∙◌, arith}
+use Rattle.std.proofs.Common.{◌≡◌, ℕ, zero, suc, ◌+◌, ◌-◌, ◌*◌, ◌<◌, ◌≤◌, List, [], ◌∷◌, ◌++◌, length, get_or, replicate, pos, ◌+ℤ◌, ◌≤ℤ◌, fold, sym, refl, ap, ◌∙◌, arith}
 use Rattle.std.specs.List.{AllByRecursion}
 use Rattle.std.proofs.ByRecursion.{All-weaker}
 use Rattle.std.proofs.lemmas.List.{ext_get_or}
@@ -14,7 +14,7 @@ use Rattle.layout.specs.Climbs.{steep, steep_graph, Low, height_over, topped, cl
 use Rattle.layout.proofs.Tops.{folded_length, folded_each, folded_up, folded_met}
 use Rattle.layout.proofs.Steep.{steep_through, steep_falls}
 
-zeros_at : (n b : ℕ) → ◌≡◌ {A = ℕ} (get_or (replicate n 0) b 0) 0
+pub zeros_at : (n b : ℕ) → ◌≡◌ {A = ℕ} (get_or (replicate n 0) b 0) 0
 zeros_at zero b = refl
 zeros_at (suc n) zero = refl
 zeros_at (suc n) (suc b) = zeros_at n b
@@ -23,6 +23,19 @@ zeros_at (suc n) (suc b) = zeros_at n b
 pub folded_low : (es : List Edge) → AllByRecursion Bounded es → (b : ℕ) (from : List ℕ) → Low b from → Low (b + 4033) (fold (topped (height_over from)) from es)
 folded_low es bounded b from low s =
     folded_each (height_over from) (λ c x. x ≤ b + 4033) es from (λ e i x l h. omega (arith, (all_in Bounded es e bounded i).drop, low e.reader)) (λ c. omega (arith, low c)) s
+
+pub zeros_low : Low 900000 (replicate 64 0)
+zeros_low s = omega (arith, zeros_at 64 s)
+
+pub heights_more : (es : List Edge) (k : ℕ) → heights es (k + 1) ≡ climbed es (heights es k)
+unfolding heights
+heights_more es k = let more : k + 1 ≡ suc k = omega arith in ap (heights es) more
+
+-- heights after some climbs are those of one climb less, climbed
+pub climbed_before : (es : List Edge) (k : ℕ) (before row : List ℕ) → 0 < k → before ≡ heights es (k - 1) → row ≡ heights es k → row ≡ climbed es before
+unfolding heights
+climbed_before es zero before row some b r = absurd (omega arith)
+climbed_before es (suc k) before row some b r = let less : suc k - 1 ≡ k = omega arith in r ∙ ap (climbed es) (sym (b ∙ ap (heights es) less))
 
 module _ (es : List Edge) (bounded : AllByRecursion Bounded es) where
   pub heights_length : (m : ℕ) → length (heights es m) ≡ 64

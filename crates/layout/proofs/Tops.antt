@@ -22,7 +22,7 @@ module _ (v : Edge → ℕ) where
   abbrev pub Brings : (ℕ → ℕ → Type 0) → Edge → Type 0
   Brings P e = (x : ℕ) → x < v e → P e.read x → P e.read (v e)
 
-  topped_each : (P : ℕ → ℕ → Type 0) (e : Edge) (to : List ℕ) → Brings P e → Each P to → Each P (topped v to e)
+  pub topped_each : (P : ℕ → ℕ → Type 0) (e : Edge) (to : List ℕ) → Brings P e → Each P to → Each P (topped v to e)
   topped_each P e to brings each b = elim (ℕ_discrete e.read b) [
     | yes same ↦ elim (dec_lt e.read (length to)) [
       | yes l ↦

@@ -1,5 +1,5 @@
 -- Heights: what climbs along the edges make of the nodes, by steep weights. Assumes nothing.
-use Rattle.std.specs.Prelude.{◌≡◌, ℕ, zero, suc, ◌+◌, ◌-◌, ◌*◌, ◌≤◌, max, List, replicate, ℤ, pos, ◌-ℤ◌, fold, slice_index, slice_set}
+use Rattle.std.specs.Prelude.{◌≡◌, ℕ, zero, suc, ◌+◌, ◌-◌, ◌*◌, ◌≤◌, max, List, replicate, ℤ, pos, ◌-ℤ◌, [], fold, slice_index, slice_index_or, slice_set}
 use Rattle.walks.specs.declared.edge.Edge.{Edge}
 use Rattle.walks.specs.Walks.{Graph}
 
@@ -38,3 +38,14 @@ pub record Resting (es : List Edge) (h : List ℕ) : Type 0 where
   pub few : climbs ≤ 33
   pub made : h ≡ heights es climbs
   pub still : climbed es h ≡ h
+
+-- a row by the reader, for each node read how high the reader's edges reach from 900000
+abbrev pub steeper : List (List ℕ) → Edge → List (List ℕ)
+steeper rows e = slice_set rows e.reader (topped (height_over (replicate 64 900000)) (slice_index_or rows e.reader []) e)
+
+unfoldable pub slopes : List Edge → List (List ℕ)
+slopes es = fold steeper (replicate 64 (replicate 64 0)) es
+
+-- each node at least as high as the row's edges reach from x
+abbrev pub Raised : ℕ → List ℕ → List ℕ → List ℕ → Type 0
+Raised x row old new = (s : ℕ) → slice_index new s ≡ max (slice_index old s) (x + slice_index row s - 900000)

@@ -1,10 +1,15 @@
 // Heights: for each node the greatest steep weight of any walk that ends there, where there is one.
-ghost use Rattle.std.specs.Prelude.{◌≡◌, MatchOption, ◌≢◌};
+ghost use Rattle.std.specs.Prelude.{◌≡◌, ℕ, ◌≤◌, List, [], slice_index_or, MatchOption, ◌≢◌};
+ghost use Rattle.std.specs.List.{AllByRecursion};
+ghost use Rattle.walks.specs.declared.edge.Edge.{Edge};
 ghost use Rattle.walks.specs.Edges.{Bounded};
-ghost use Rattle.layout.specs.Climbs.{Low, height_over, topped, climbed, heights, Resting};
+ghost use Rattle.layout.specs.Climbs.{Low, height_over, topped, climbed, heights, Resting, slopes, Raised};
 
 use walks::edge::Edge;
 use walks::graph::{Graph, NODES};
+
+// No height comes above it, nor does any edge fall from it to 0.
+const BASE: u32 = 900_000;
 
 // One edge's part in a climb: what it reads lies at least its steep weight above its reader.
 fn raise(from: &[u32; NODES], to: &mut [u32; NODES], edge: &Edge)
@@ -36,18 +41,66 @@ fn climb(graph: &Graph, from: &[u32; NODES]) -> [u32; NODES]
     to
 }
 
+// For each two nodes how high the edges of the first to the second reach from BASE; 0 where there are none.
+#[tactic(auto, using(std::proofs::lemmas::List::take_all), unfolding(crate::specs::Climbs::slopes))]
+fn slopes(graph: &Graph) -> [[u32; NODES]; NODES]
+    ensures { result ≡ slopes graph.now.edges.now }
+{
+    let base = [BASE; NODES];
+    let mut rows = [[0; NODES]; NODES];
+    for edge in graph.edges {
+        raise(&base, &mut rows[edge.reader], edge);
+    }
+    rows
+}
+
+// The part of all edges of one node, from its height, in a climb.
+fn raise_all(to: &mut [u32; NODES], row: &[u32; NODES], height: u32)
+    requires low { (height ≤ 900000) × (Low 1000000 row.now) }
+    ensures { Raised height row.now to.old to.new }
+{
+    for read in 0..NODES {
+        to[read] = to[read].max((height + row[read]).saturating_sub(BASE));
+    }
+}
+
+// The heights after one more climb. An edge raises nothing where the climb before left its reader as it was.
+fn climb_on(
+    rows: &[[u32; NODES]; NODES],
+    before: &[u32; NODES],
+    from: &[u32; NODES],
+) -> [u32; NODES]
+    requires low { (Low 900000 from.now) × ((r : ℕ) → Low 1000000 (slice_index_or rows.now r [])) }
+    ensures { (es : List Edge) → AllByRecursion Bounded es → rows.now ≡ slopes es → from.now ≡ climbed es before.now → result ≡ climbed es from.now }
+{
+    let mut to = *from;
+    for reader in 0..NODES {
+        if from[reader] != before[reader] {
+            raise_all(&mut to, &rows[reader], from[reader]);
+        }
+    }
+    to
+}
+
 // Heights that a climb leaves as they are; none where even the last climb changes them.
 #[tactic(auto, unfolding(crate::specs::Climbs::heights))]
 pub(crate) fn resting_heights(graph: &Graph) -> Option<[u32; NODES]>
     ensures { MatchOption result (climbed graph.now.edges.now (heights graph.now.edges.now 33) ≢ heights graph.now.edges.now 33) (λ h. Resting graph.now.edges.now h) }
 {
-    let mut row = [0; NODES];
+    let mut before = [0; NODES];
+    let mut row = climb(graph, &before);
+    // Most tables are at rest already; only for others are rows worth their making.
+    if row == before {
+        return Some(row);
+    }
+    let rows = slopes(graph);
     // A walk that comes nowhere twice has at most 33 edges, so one climb more tells.
-    for _ in 0..34u32 {
-        let next = climb(graph, &row);
+    for _ in 1..34u32 {
+        let next = climb_on(&rows, &before, &row);
         if next == row {
             return Some(row);
         }
+        before = row;
         row = next;
     }
     None

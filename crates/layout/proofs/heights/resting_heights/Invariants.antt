@@ -4,4 +4,7 @@ use Rattle.layout.proofs.heights.resting_heights.Given as goal
 
 abbrev pub invariant-loop : goal.invariant-loop
 invariant-loop l =
-    (l.row ≡ heights l.graph.edges.now l.counter) × (0 < l.counter → heights l.graph.edges.now l.counter ≡ heights l.graph.edges.now (l.counter - 1) → ⊥)
+    (0 < l.counter)
+    × (l.before ≡ heights l.graph.edges.now (l.counter - 1))
+    × (l.row ≡ heights l.graph.edges.now l.counter)
+    × (heights l.graph.edges.now l.counter ≡ heights l.graph.edges.now (l.counter - 1) → ⊥)
