@@ -1,5 +1,5 @@
 -- The heights after a number of climbs, and the walks that they weigh. Assumes nothing.
-use Rattle.std.proofs.Common.{◌≡◌, ℕ, zero, suc, ◌+◌, ◌-◌, ◌*◌, ◌<◌, ◌≤◌, List, [], ◌∷◌, ◌++◌, length, get_or, replicate, pos, ◌+ℤ◌, ◌≤ℤ◌, fold, sym, refl, ap, ◌∙◌, arith}
+use Rattle.std.proofs.Common.{◌≡◌, ℕ, zero, suc, ◌+◌, ◌*◌, ◌<◌, ◌≤◌, List, [], ◌∷◌, ◌++◌, length, get_or, replicate, pos, ◌+ℤ◌, ◌≤ℤ◌, fold, sym, refl, ap, ◌∙◌, arith}
 use Rattle.std.specs.List.{AllByRecursion}
 use Rattle.std.proofs.ByRecursion.{All-weaker}
 use Rattle.std.proofs.lemmas.List.{ext_get_or}
@@ -30,12 +30,6 @@ zeros_low s = omega (arith, zeros_at 64 s)
 pub heights_more : (es : List Edge) (k : ℕ) → heights es (k + 1) ≡ climbed es (heights es k)
 unfolding heights
 heights_more es k = let more : k + 1 ≡ suc k = omega arith in ap (heights es) more
-
--- heights after some climbs are those of one climb less, climbed
-pub climbed_before : (es : List Edge) (k : ℕ) (before row : List ℕ) → 0 < k → before ≡ heights es (k - 1) → row ≡ heights es k → row ≡ climbed es before
-unfolding heights
-climbed_before es zero before row some b r = absurd (omega arith)
-climbed_before es (suc k) before row some b r = let less : suc k - 1 ≡ k = omega arith in r ∙ ap (climbed es) (sym (b ∙ ap (heights es) less))
 
 module _ (es : List Edge) (bounded : AllByRecursion Bounded es) where
   pub heights_length : (m : ℕ) → length (heights es m) ≡ 64

@@ -130,9 +130,6 @@ pub record Climbing (rows : List (List ℕ)) (before from : List ℕ) (reader : 
   pub comes : (b : ℕ) → (get_or to b 0 ≡ get_or from b 0) ⊎ ((r : ℕ) × (get_or to b 0 ≡ get_or from r 0 + cell rows r b - 900000))
 
 module _ (rows : List (List ℕ)) (before from : List ℕ) where
-  pub climbing_starts : length from ≡ 64 → Climbing rows before from 0 from
-  climbing_starts long = record { long = long; up = λ b. omega arith; met = λ r l. absurd (omega arith); comes = λ b. inl refl }
-
   pub climbing_left : (reader : ℕ) (to : List ℕ) → get_or from reader 0 ≡ get_or before reader 0 → Climbing rows before from reader to → Climbing rows before from (reader + 1) to
   climbing_left reader to same climbing = record {
     long = climbing.long;

@@ -8,7 +8,7 @@ ghost use Rattle.layout.specs.Climbs.{Low, height_over, topped, climbed, heights
 use walks::edge::Edge;
 use walks::graph::{Graph, NODES};
 
-// No height comes above it, nor does any edge fall from it to 0.
+// No height is above it, and no edge falls from it to 0, so 0 can stand for no edge.
 const BASE: u32 = 900_000;
 
 // One edge's part in a climb: what it reads lies at least its steep weight above its reader.
@@ -54,29 +54,32 @@ fn slopes(graph: &Graph) -> [[u32; NODES]; NODES]
     rows
 }
 
-// The part of all edges of one node, from its height, in a climb.
+// The part in a climb of all edges of one node, by its row and its height.
 fn raise_all(to: &mut [u32; NODES], row: &[u32; NODES], height: u32)
+    // Rows are made once and passed on, so a type for their bound would be no plainer.
     requires low { (height ≤ 900000) × (Low 1000000 row.now) }
     ensures { Raised height row.now to.old to.new }
 {
-    for read in 0..NODES {
-        to[read] = to[read].max((height + row[read]).saturating_sub(BASE));
+    for (read, reach) in row.iter().enumerate() {
+        to[read] = to[read].max((height + reach).saturating_sub(BASE));
     }
 }
 
-// The heights after one more climb. An edge raises nothing where the climb before left its reader as it was.
+// The heights after one more climb, by the rows. An edge raises nothing where the climb before left its reader as it was.
+#[tactic(auto, using(crate::proofs::Slopes::climbing_all))]
 fn climb_on(
     rows: &[[u32; NODES]; NODES],
     before: &[u32; NODES],
     from: &[u32; NODES],
 ) -> [u32; NODES]
+    // As in `climb` and `raise_all`.
     requires low { (Low 900000 from.now) × ((r : ℕ) → Low 1000000 (slice_index_or rows.now r [])) }
     ensures { (es : List Edge) → AllByRecursion Bounded es → rows.now ≡ slopes es → from.now ≡ climbed es before.now → result ≡ climbed es from.now }
 {
     let mut to = *from;
-    for reader in 0..NODES {
+    for (reader, row) in rows.iter().enumerate() {
         if from[reader] != before[reader] {
-            raise_all(&mut to, &rows[reader], from[reader]);
+            raise_all(&mut to, row, from[reader]);
         }
     }
     to
@@ -89,7 +92,7 @@ pub(crate) fn resting_heights(graph: &Graph) -> Option<[u32; NODES]>
 {
     let mut before = [0; NODES];
     let mut row = climb(graph, &before);
-    // Most tables are at rest already; only for others are rows worth their making.
+    // A table at rest already goes without rows, which cost as much as this climb; climbs by rows cost far less.
     if row == before {
         return Some(row);
     }
