@@ -92,7 +92,7 @@ pub(crate) fn resting_heights(graph: &Graph) -> Option<[u32; NODES]>
 {
     let mut before = [0; NODES];
     let mut row = climb(graph, &before);
-    // A table at rest already goes without rows, which cost as much as this climb; climbs by rows cost far less.
+    // At rest already: no need of rows, which cost as much as this climb. A climb by rows costs far less.
     if row == before {
         return Some(row);
     }
