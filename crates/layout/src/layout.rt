@@ -11,7 +11,7 @@ use arrayvec::ArrayVec;
 use walks::graph::{Graph, NODES, STREAMS};
 
 // How values are laid out: for each node its lead and its ring's length, and the streams in an order of evaluation.
-// Arrays and a list in place, since a layout must not fail for want of memory.
+// Arrays and a list in place, since a layout must not fail for want of memory; two arrays, since all leads are known before any length.
 #[derive(Clone, Drop)]
 pub struct Layout {
     // For each node the greatest weight of any walk that ends there.
