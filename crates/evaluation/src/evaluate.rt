@@ -23,17 +23,14 @@ fn eval<S: Source>(e: &Expr, source: &S, depth: u8) -> Value
         Expr::Stream { number, drop, .. } => source.stream(*number, *drop),
         Expr::Unary { op, operand, .. } => op.apply(eval(operand, source, depth - 1)),
         Expr::Cast { to, operand, .. } => eval(operand, source, depth - 1).cast(*to),
-        Expr::Binary {
-            op,
-            left,
-            right,
-            ..
-        } => {
+        Expr::Binary { op, operands, .. } => {
+            let (left, right) = &**operands;
             let left = eval(left, source, depth - 1);
             let right = eval(right, source, depth - 1);
             op.apply(left, right)
         }
-        Expr::Choose { test, yes, no, .. } => {
+        Expr::Choose { operands, .. } => {
+            let (test, yes, no) = &**operands;
             let test = eval(test, source, depth - 1);
             let yes = eval(yes, source, depth - 1);
             let no = eval(no, source, depth - 1);

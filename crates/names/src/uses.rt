@@ -51,11 +51,13 @@ fn visit_expression<V: Visitor>(e: &Expr, visitor: &mut V) -> Result<(), V::Erro
         Expr::Unary { operand, .. } | Expr::Cast { operand, .. } => {
             visit_expression(operand, visitor)
         }
-        Expr::Binary { left, right, .. } => {
+        Expr::Binary { operands, .. } => {
+            let (left, right) = &**operands;
             visit_expression(left, visitor)?;
             visit_expression(right, visitor)
         }
-        Expr::Choose { test, yes, no, .. } => {
+        Expr::Choose { operands, .. } => {
+            let (test, yes, no) = &**operands;
             visit_expression(test, visitor)?;
             visit_expression(yes, visitor)?;
             visit_expression(no, visitor)

@@ -23,5 +23,5 @@ exp (owned.Channel at i) = channel at i
 exp (owned.Stream at i d) = stream at i d
 exp (owned.Unary' at o p e) = unary at o (exp e)
 exp (owned.Cast' at t p e) = cast at t (exp e)
-exp (owned.Binary' at o p a q b) = binary at o (exp a) (exp b)
-exp (owned.Choose' at p a q b r c) = choose at (exp a) (exp b) (exp c)
+exp (owned.Binary' at o p a b) = binary at o (exp a) (exp b)
+exp (owned.Choose' at p a b c) = choose at (exp a) (exp b) (exp c)

@@ -9,7 +9,7 @@ use faults::stop::Stop;
 use std::alloc::Global;
 
 impl<'a> Reader<'a> {
-    // The operand that comes next, at most `depth` deep.
+    // An only operand, in its box, at most `depth` deep.
     #[cycle(read_expression)]
     fn read_operand(&mut self, alloc: Global, depth: u8) -> Result<Box<Expr>, Stop>
         ensures { Reads (λ b. exp b.value) self.old self.new result (parse depth self.old.bytes.now self.old.at) }
@@ -32,28 +32,31 @@ impl<'a> Reader<'a> {
                 number,
                 drop,
             }),
-            Node::Unary(op) => Ok(Expr::Unary {
-                place,
-                op,
-                operand: self.read_operand(alloc, depth - 1)?,
-            }),
-            Node::Cast(to) => Ok(Expr::Cast {
-                place,
-                to,
-                operand: self.read_operand(alloc, depth - 1)?,
-            }),
-            Node::Binary(op) => Ok(Expr::Binary {
-                place,
-                op,
-                left: self.read_operand(alloc, depth - 1)?,
-                right: self.read_operand(alloc, depth - 1)?,
-            }),
-            Node::Choose => Ok(Expr::Choose {
-                place,
-                test: self.read_operand(alloc, depth - 1)?,
-                yes: self.read_operand(alloc, depth - 1)?,
-                no: self.read_operand(alloc, depth - 1)?,
-            }),
+            Node::Unary(op) => {
+                let operand = self.read_operand(alloc, depth - 1)?;
+                Ok(Expr::Unary { place, op, operand })
+            }
+            Node::Cast(to) => {
+                let operand = self.read_operand(alloc, depth - 1)?;
+                Ok(Expr::Cast { place, to, operand })
+            }
+            Node::Binary(op) => {
+                let left = self.read_expression(alloc, depth - 1)?;
+                let right = self.read_expression(alloc, depth - 1)?;
+                let operands = Box::new(alloc, (left, right))?;
+                Ok(Expr::Binary {
+                    place,
+                    op,
+                    operands,
+                })
+            }
+            Node::Choose => {
+                let test = self.read_expression(alloc, depth - 1)?;
+                let yes = self.read_expression(alloc, depth - 1)?;
+                let no = self.read_expression(alloc, depth - 1)?;
+                let operands = Box::new(alloc, (test, yes, no))?;
+                Ok(Expr::Choose { place, operands })
+            }
         }
     }
 }

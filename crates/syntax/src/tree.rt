@@ -6,7 +6,7 @@ use values::value::Value;
 // How deep an expression is at most.
 pub const DEPTH: u8 = 12;
 
-// An expression; each node has the place of its first byte in the table.
+// An expression; each node has the place of its first byte in the table, and its operands in one box.
 #[derive(Drop)]
 pub enum Expr {
     // A value written in the table.
@@ -38,14 +38,12 @@ pub enum Expr {
     Binary {
         place: u16,
         op: Binary,
-        left: Box<Expr>,
-        right: Box<Expr>,
+        operands: Box<(Expr, Expr)>,
     },
+    // The value of the second operand where the first is true, else of the third.
     Choose {
         place: u16,
-        test: Box<Expr>,
-        yes: Box<Expr>,
-        no: Box<Expr>,
+        operands: Box<(Expr, Expr, Expr)>,
     },
 }
 

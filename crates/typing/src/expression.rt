@@ -49,19 +49,15 @@ impl Scope {
             Expr::Binary {
                 place,
                 op,
-                left,
-                right,
+                operands,
             } => {
+                let (left, right) = &**operands;
                 let a = self.operand(left, depth - 1)?;
                 let b = self.operand(right, depth - 1)?;
                 fitted(*place, binary_type(*op, a, b))
             }
-            Expr::Choose {
-                place,
-                test,
-                yes,
-                no,
-            } => {
+            Expr::Choose { place, operands } => {
+                let (test, yes, no) = &**operands;
                 let t = self.operand(test, depth - 1)?;
                 let a = self.operand(yes, depth - 1)?;
                 let b = self.operand(no, depth - 1)?;

@@ -81,7 +81,7 @@ fn divided(e: &Expr) -> bool
     ensures { result ≡ divided (exp e.now) }
 {
     match e {
-        Expr::Binary { op, right, .. } => !divides(*op) || divisor(right),
+        Expr::Binary { op, operands, .. } => !divides(*op) || divisor(&operands.1),
         _ => true,
     }
 }
