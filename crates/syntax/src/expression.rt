@@ -9,7 +9,7 @@ use faults::stop::Stop;
 use std::alloc::Global;
 
 impl<'a> Reader<'a> {
-    // An only operand, in its box, at most `depth` deep.
+    // The operand that comes next, in a box of its own, at most `depth` deep.
     #[cycle(read_expression)]
     fn read_operand(&mut self, alloc: Global, depth: u8) -> Result<Box<Expr>, Stop>
         ensures { Reads (λ b. exp b.value) self.old self.new result (parse depth self.old.bytes.now self.old.at) }
