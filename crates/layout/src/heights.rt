@@ -60,6 +60,7 @@ fn raise_all(to: &mut [u32; NODES], row: &[u32; NODES], height: u32)
     requires low { (height ≤ 900000) × (Low 1000000 row.now) }
     ensures { Raised height row.now to.old to.new }
 {
+    // With its place, since `iter_mut` under `zip` leaves a proof no entry.
     for (read, reach) in row.iter().enumerate() {
         to[read] = to[read].max((height + reach).saturating_sub(BASE));
     }
@@ -77,6 +78,7 @@ fn climb_on(
     ensures { (es : List Edge) → AllByRecursion Bounded es → rows.now ≡ slopes es → from.now ≡ climbed es before.now → result ≡ climbed es from.now }
 {
     let mut to = *from;
+    // With the node's number, by which both heights are looked up.
     for (reader, row) in rows.iter().enumerate() {
         if from[reader] != before[reader] {
             raise_all(&mut to, row, from[reader]);
