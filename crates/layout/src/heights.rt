@@ -14,7 +14,7 @@ const BASE: u32 = 900_000;
 // One edge's part in a climb: what it reads lies at least its steep weight above its reader.
 fn raise(from: &[u32; NODES], to: &mut [u32; NODES], edge: &Edge)
     // No plainer in a type: that would be a second record of edges, beside the one that definitions make of any reference.
-    // Nor can the type of heights, which a climb raises.
+    // The type of heights can't carry their bound either, since a climb raises it.
     requires bounded { Bounded edge.now }
     requires low { (Low 1000000 from.now) × (Low 1000000 to.old) }
     ensures { to.new ≡ topped (height_over from.now) to.old edge.now }
@@ -56,7 +56,7 @@ fn slopes(graph: &Graph) -> [[u32; NODES]; NODES]
 
 // The part in a climb of all edges of one node, by its row and its height.
 fn raise_all(to: &mut [u32; NODES], row: &[u32; NODES], height: u32)
-    // Rows are made once and passed on, so a type for their bound would be no plainer.
+    // Rows are made once and passed on, so a type for their bound would be no plainer; a height's bound is as in `climb`.
     requires low { (height ≤ 900000) × (Low 1000000 row.now) }
     ensures { Raised height row.now to.old to.new }
 {
@@ -78,7 +78,7 @@ fn climb_on(
     ensures { (es : List Edge) → AllByRecursion Bounded es → rows.now ≡ slopes es → from.now ≡ climbed es before.now → result ≡ climbed es from.now }
 {
     let mut to = *from;
-    // With the node's number, by which both heights are looked up.
+    // By number: a zip of the rows and both heights would be no plainer.
     for (reader, row) in rows.iter().enumerate() {
         if from[reader] != before[reader] {
             raise_all(&mut to, row, from[reader]);
@@ -94,7 +94,7 @@ pub(crate) fn resting_heights(graph: &Graph) -> Option<[u32; NODES]>
 {
     let mut before = [0; NODES];
     let mut row = climb(graph, &before);
-    // At rest already: no need of rows, which cost as much as this climb. A climb by rows costs far less.
+    // At rest already: no need of rows, which cost more than this climb and pay from the next one on.
     if row == before {
         return Some(row);
     }

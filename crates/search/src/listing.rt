@@ -30,7 +30,7 @@ fn layers(graph: &Graph, start: Start, arrival: Arrival) -> [Row; ROWS]
 // Whether an edge leads from the row to the weight `left` at `node`.
 fn leads_into(from: &Row, edge: &Edge, node: usize, left: u32) -> bool
     // No plainer in a type: that would be a second record of edges, beside the one that definitions make of any reference.
-    // Nor can the type of rows, whose bound a step raises.
+    // The type of rows can't carry theirs either, since a step raises it.
     requires bounded { Bounded edge.now }
     requires low { AllByRecursion (Low MOST_WEIGHT) from.now }
     ensures { result ≡ into from.now node left edge.now }

@@ -29,7 +29,7 @@ pub(crate) fn lift(edge: &Edge) -> u32
 // One edge's part in a step; most often the place is no lower already, and nothing is written.
 fn extend(from: &Row, to: &mut Row, edge: &Edge)
     // No plainer in a type: that would be a second record of edges, beside the one that definitions make of any reference.
-    // Nor can the type of rows, whose bound a step raises.
+    // The type of rows can't carry theirs either, since a step raises it.
     requires bounded { Bounded edge.now }
     requires low { AllByRecursion (Low MOST_WEIGHT) from.now }
     ensures { to.new ≡ extended from.now to.old edge.now }

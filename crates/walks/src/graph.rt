@@ -3,8 +3,8 @@ ghost use Rattle.walks.specs.Edges.{Fits, Fits-prop};
 
 use crate::edge::Edge;
 
-// How many channels, streams and rules the largest graph has. A table's limits (`Kind::limit`) are the same numbers: this crate
-// and that of records use neither each other, and would have to for three numbers.
+// How many channels, streams and rules the largest graph has. A table's limits (`Kind::limit`) are the same numbers: neither
+// this crate nor that of records uses the other, and one would have to for three numbers.
 pub const CHANNELS: usize = 16;
 
 pub const STREAMS: usize = 32;
