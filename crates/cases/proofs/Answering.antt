@@ -14,11 +14,11 @@ use Rattle.schedule.proofs.Taking.{takes_one}
 use Rattle.syntax.specs.Entries.{Entry}
 use Rattle.walks.specs.declared.edge.SheetEntry.{SheetEntry}
 use Rattle.walks.specs.Walks.{Walk, weigh, at, Apart, Rising, Falling, Settled, TellsClosed, TellsAhead}
-use Rattle.acceptance.specs.Rejecting.{Rejection}
+use Rattle.tables.specs.Rejecting.{Rejection}
 use Rattle.faults.specs.declared.stop.Stop.TheVariants.{Refused, Memory}
-use Rattle.tables.specs.Checking.{checked}
-use Rattle.acceptance.specs.Checking.{Accepts, Refuses}
-use Rattle.acceptance.proofs.Deciding.{same_records}
+use Rattle.tables.specs.Reading.{checked}
+use Rattle.tables.specs.Checking.{Accepts, Refuses}
+use Rattle.tables.proofs.Deciding.{same_records}
 use Rattle.cases.specs.Cases.{Checks, AcceptedWith, RefusedFor}
 
 module _ (bytes : List ℕ) (rs : List Entry) (order : checked bytes ≡ Ok rs) where

@@ -2,7 +2,7 @@
 use Rattle.std.proofs.Common.{◌≡◌, ℕ, List, Ok, Err, Result, ap, ◌∙◌, arith}
 use Rattle.faults.specs.declared.cause.Cause.{Cause}
 use Rattle.schedule.specs.declared.plan.Counts.{Counts}
-use Rattle.acceptance.specs.Rejecting.{Rejection}
+use Rattle.tables.specs.Rejecting.{Rejection}
 use Rattle.faults.specs.declared.stop.Stop.TheVariants.{Refused, Memory}
 use Rattle.cases.specs.Cases.{Checks, AcceptedWith, RefusedFor, Says, Verdict}
 

@@ -18,7 +18,7 @@ use Rattle.schedule.specs.Edges.{InOrder, id_at}
 use Rattle.schedule.specs.Graphs.{stream, openings, graph}
 use Rattle.schedule.specs.Plans.{ring_count, lead_by, Takes}
 use Rattle.walks.specs.Walks.{at, Apart, Rising, Lead, Ring}
-use Rattle.tables.specs.Checking.{checked}
+use Rattle.tables.specs.Reading.{checked}
 use Rattle.cases.specs.Cases.{one_stream, OneAhead, NoneAhead}
 use Rattle.cases.proofs.Potentials.{falls, reaching, most, settled}
 use Rattle.cases.proofs.Answering.{acceptance, closed_refusal}

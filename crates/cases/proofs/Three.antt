@@ -24,7 +24,7 @@ use Rattle.schedule.specs.Graphs.{channel, stream, openings, graph, IsChannel}
 use Rattle.schedule.specs.Plans.{ring_count, lead_by, Takes}
 use Rattle.walks.specs.Walks.{Walk, weigh, reach, Falling, Lead, Ring}
 use Rattle.walks.proofs.Cut.{all_in}
-use Rattle.tables.specs.Checking.{checked}
+use Rattle.tables.specs.Reading.{checked}
 use Rattle.cases.specs.Cases.{three_streams, ThreeAhead, FourAhead}
 use Rattle.cases.proofs.Potentials.{along, falls, reaching, most, settled}
 use Rattle.cases.proofs.Answering.{acceptance, ahead_refusal}

@@ -21,10 +21,10 @@ use Rattle.schedule.specs.Edges.{InOrder, id_at}
 use Rattle.schedule.specs.Graphs.{stream, openings, graph}
 use Rattle.schedule.specs.Plans.{ring_count, lead_by, Takes}
 use Rattle.walks.specs.Walks.{reach, Falling, Lead, Ring}
-use Rattle.tables.specs.Checking.{checked}
+use Rattle.tables.specs.Reading.{checked}
 use Rattle.cases.specs.Cases.{two_streams, two_leads, Two, TwoStreams}
 use Rattle.cases.proofs.Potentials.{falls, reaching, most, settled}
-use Rattle.acceptance.proofs.Deciding.{same_records}
+use Rattle.tables.proofs.Deciding.{same_records}
 use Rattle.cases.proofs.Answering.{acceptance}
 
 -- their records, and their references

@@ -9,11 +9,11 @@ use Rattle.schedule.specs.Plans.{lead_by}
 use Rattle.syntax.specs.Entries.{Entry}
 use Rattle.walks.specs.declared.edge.SheetEntry.{SheetEntry}
 use Rattle.walks.specs.Walks.{Lead, Ring}
-use Rattle.acceptance.specs.Rejecting.{Rejection}
+use Rattle.tables.specs.Rejecting.{Rejection}
 use Rattle.faults.specs.declared.stop.Stop.TheVariants.{Refused, Memory}
-use Rattle.acceptance.specs.declared.table.Table.{Table}
-use Rattle.tables.specs.Checking.{checked}
-use Rattle.acceptance.specs.Checking.{Answers}
+use Rattle.tables.specs.declared.table.Table.{Table}
+use Rattle.tables.specs.Reading.{checked}
+use Rattle.tables.specs.Checking.{Answers}
 use Rattle.cases.specs.declared.WalkCases.{WalkCases}
 
 -- whatever the check answers of the bytes, with a sheet that is long enough and where memory does not fail, is P

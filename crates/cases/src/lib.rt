@@ -4,11 +4,11 @@
 ghost use Rattle.std.specs.Prelude.{◌≡◌, IfOk};
 ghost use Rattle.cases.specs.Cases.{three_streams, one_stream, TwoStreams, ThreeAhead, FourAhead, OneAhead, NoneAhead, Says, Verdict, AsWorked};
 
-use acceptance::line::ask;
-use acceptance::rejection::Rejection;
 use faults::cause::Cause;
 use schedule::plan::Counts;
 use std::alloc::{AllocError, Global};
+use tables::line::ask;
+use tables::rejection::Rejection;
 
 // Stream 0 is m3 = [0, 1, 2] ++ m2, and stream 1 is m2 = drop 1 m3, in Word8.
 const TWO_STREAMS: [u8; 20] = [

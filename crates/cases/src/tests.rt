@@ -1,9 +1,9 @@
 // What a check leaves of the table and the sheet, on examples.
 use crate::{TWO_STREAMS, one_stream, three_streams};
-use acceptance::line::{BLANK_SHEET, ask};
-use acceptance::rejection::Rejection;
-use acceptance::table::Table;
 use std::test::Fail;
+use tables::line::{BLANK_SHEET, ask};
+use tables::rejection::Rejection;
+use tables::table::Table;
 use walks::edge::SheetEntry;
 
 // An entry that no walk fills.

@@ -1,9 +1,8 @@
 -- What is told of a line. Assumes nothing.
-use Rattle.std.specs.Prelude.{ℕ, List, Some, None, codes, Option}
-use Rattle.tables.specs.Checking.{checked}
-use Rattle.tables.specs.Lines.{line}
+use Rattle.std.specs.Prelude.{◌≡◌, ℕ, List, Some, None, codes, Option}
+use Rattle.tables.specs.Lines.{TellsLine}
 
--- what a table's bytes are
-abbrev pub told : Option (List ℕ) → List ℕ
-told (Some bytes) = line (checked bytes)
-told None = codes "not hexadecimal"
+-- what is told of a table's bytes, where there are any
+abbrev pub Told : Option (List ℕ) → List ℕ → Type 0
+Told (Some bytes) text = TellsLine bytes text
+Told None text = text ≡ codes "not hexadecimal"

@@ -1,6 +1,6 @@
 // An accepted table.
 ghost use Rattle.syntax.specs.Entries.{entries_of};
-ghost use Rattle.acceptance.specs.Accepting.{Accepted};
+ghost use Rattle.tables.specs.Accepting.{Accepted};
 
 use schedule::plan::Plan;
 use syntax::record::Record;

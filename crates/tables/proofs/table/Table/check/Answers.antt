@@ -1,7 +1,7 @@
 use Rattle.std.proofs.Common.{Ok, Err, refl}
-use Rattle.acceptance.proofs.Passing.{written_law}
-use Rattle.acceptance.proofs.Deciding.{rejects, decided}
-use Rattle.acceptance.proofs.table.Table.check.Goals as goal
+use Rattle.tables.proofs.Passing.{written_law}
+use Rattle.tables.proofs.Deciding.{rejects, decided}
+use Rattle.tables.proofs.table.Table.check.Goals as goal
 
 pub returns-in-Err : goal.returns-in-Err
 returns-in-Err c =

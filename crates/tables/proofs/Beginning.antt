@@ -8,8 +8,8 @@ use Rattle.schedule.specs.Plans.{counted}
 use Rattle.syntax.specs.Entries.{Entry}
 use Rattle.syntax.specs.Reading.{read_table, entries}
 use Rattle.walks.specs.Walks.{Falling, Settled}
-use Rattle.tables.specs.Checking.{checked}
-use Rattle.acceptance.specs.Accepting.{Accepted}
+use Rattle.tables.specs.Reading.{checked}
+use Rattle.tables.specs.Accepting.{Accepted}
 
 pub first_order : checked (1 ∷ []) ≡ Ok []
 unfolding checked read_table entries

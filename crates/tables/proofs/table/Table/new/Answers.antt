@@ -1,7 +1,7 @@
 use Rattle.std.proofs.Common.{map, Ok, sym, ap, ◌∙◌}
 use Rattle.syntax.specs.Entries.{entry_of}
-use Rattle.acceptance.proofs.Beginning.{first_order, first_accepted, none_counted}
-use Rattle.acceptance.proofs.table.Table.new.Goals as goal
+use Rattle.tables.proofs.Beginning.{first_order, first_accepted, none_counted}
+use Rattle.tables.proofs.table.Table.new.Goals as goal
 
 pub invariant_of-result : goal.invariant_of-result
 invariant_of-result c = record { accepted = ∣ first_accepted _ _ _ c.in_ok-bytes.ensures.items (ap (map entry_of) c.new-records.ensures.items) (none_counted c.default.result c.default.ensures) c.new.ensures c.new-2.ensures ∣₁ }

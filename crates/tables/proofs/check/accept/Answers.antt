@@ -6,11 +6,11 @@ use Rattle.schedule.specs.Scheduling.{Scheduled}
 use Rattle.schedule.proofs.Standing.{orderly}
 use Rattle.syntax.specs.declared.record.Record.{Record}
 use Rattle.syntax.specs.Entries.{entry_of, entries_of}
-use Rattle.tables.specs.Checking.{checked}
+use Rattle.tables.specs.Reading.{checked}
 use Rattle.walks.specs.declared.edge.SheetEntry.{SheetEntry}
-use Rattle.acceptance.specs.Checking.{Admits}
-use Rattle.acceptance.proofs.Passing.{written_law, order_of, starved, plan_stopped, plan_accepts}
-use Rattle.acceptance.proofs.check.accept.Goals as goal
+use Rattle.tables.specs.Checking.{Admits}
+use Rattle.tables.proofs.Passing.{written_law, order_of, starved, plan_stopped, plan_accepts}
+use Rattle.tables.proofs.check.accept.Goals as goal
 
 pub invariant_of-ordered : goal.invariant_of-ordered
 invariant_of-ordered c =

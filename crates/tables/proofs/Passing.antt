@@ -16,8 +16,8 @@ use Rattle.schedule.specs.Edges.{InOrder}
 use Rattle.schedule.specs.Plans.{lead_in, length_in, counted, Planned}
 use Rattle.schedule.specs.Scheduling.{Scheduled}
 use Rattle.walks.specs.declared.edge.SheetEntry.{SheetEntry}
-use Rattle.tables.specs.Checking.{checked}
-use Rattle.acceptance.specs.Checking.{Accepts, Starved, Admits}
+use Rattle.tables.specs.Reading.{checked}
+use Rattle.tables.specs.Checking.{Accepts, Starved, Admits}
 
 -- the law of reading, of a slice whose elements are bytes
 pub written_law : (bytes : List ℕ) → ((i : ℕ) → Fits w8 (get_or bytes i 0)) → AcceptsWritten bytes

@@ -1,3 +1,0 @@
-mod Passing
-mod Beginning
-pub mod Deciding

@@ -1,4 +1,0 @@
-pub mod Accepting
-pub mod Rejecting
-pub mod Checking
-pub mod Lines
