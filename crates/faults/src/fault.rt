@@ -2,7 +2,7 @@
 ghost use Rattle.std.specs.Prelude.{◌≡◌, Some};
 ghost use Rattle.faults.specs.Causes.{number_of, place_of};
 ghost use Rattle.faults.specs.Faults.{made_by, handed_on};
-ghost use Rattle.faults.specs.Lines.{refusal_line};
+ghost use Rattle.faults.specs.Lines.{refusal_line, layer_name};
 
 use crate::cause::Cause;
 use std::fmt;
@@ -18,6 +18,24 @@ pub enum Layer {
     Ledger,
     Bell,
     Quota,
+}
+
+// Writes the layer's name.
+impl fmt::Display for Layer {
+    ghost output = { λ layer. Some (layer_name layer) };
+
+    fn fmt<W: fmt::Write>(&self, f: &mut fmt::Formatter<W>) -> fmt::Result {
+        f.write_str(match self {
+            Layer::Table => "table",
+            Layer::Panel => "panel",
+            Layer::Trace => "trace",
+            Layer::Hold => "hold",
+            Layer::Monitor => "monitor",
+            Layer::Ledger => "ledger",
+            Layer::Bell => "bell",
+            Layer::Quota => "quota",
+        })
+    }
 }
 
 // Why a call stopped, as its caller sees it.

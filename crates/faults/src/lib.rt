@@ -4,3 +4,4 @@
 pub mod cause;
 pub mod fault;
 pub mod stop;
+pub mod upper;

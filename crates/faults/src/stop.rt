@@ -22,6 +22,14 @@ impl From<Cause> for Stop {
     }
 }
 
+impl From<Fault> for Stop<Fault> {
+    ghost from_gives = { λ x y. y ≡ Refused x };
+
+    fn from(fault: Fault) -> Stop<Fault> {
+        Stop::Refused(fault)
+    }
+}
+
 impl<R, T: Drop> From<Unplaced<T>> for Stop<R> {
     ghost from_gives = { λ x y. y ≡ Memory };
 

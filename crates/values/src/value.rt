@@ -1,9 +1,11 @@
 // A value, its number, and its word.
-ghost use Rattle.std.specs.Prelude.{◌≡◌, true, pos};
+ghost use Rattle.std.specs.Prelude.{◌≡◌, true, pos, Some};
+ghost use Rattle.values.specs.Texts.{value_text};
 ghost use Rattle.values.specs.Types.{casts};
 ghost use Rattle.values.specs.Values.{type_of, num, wrap, word, Proper, Wraps};
 
 use crate::types::Type;
+use std::fmt;
 
 // A value, with its type.
 #[derive(Clone, Copy, Debug, PartialEq, Eq)]
@@ -99,5 +101,16 @@ impl Value {
         ensures wraps { Wraps }
     {
         to.from_word(self.word())
+    }
+}
+
+// Writes the type's code and the number: `02=5` is the Word8 of 5.
+impl fmt::Display for Value {
+    ghost output = { λ value. Some (value_text value) };
+
+    fn fmt<W: fmt::Write>(&self, f: &mut fmt::Formatter<W>) -> fmt::Result {
+        let code = u8::from(self.ty());
+        let number = self.number();
+        write!(f, "0{code}={number}")
     }
 }
