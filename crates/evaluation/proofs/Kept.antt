@@ -16,7 +16,7 @@ use Rattle.operators.specs.declared.operator.Binary.TheVariants.{And, Or, Add, S
 use Rattle.operators.specs.Operators.{truth, unary, binary}
 use Rattle.syntax.specs.Trees.{Exp}
 use Rattle.syntax.specs.Trees as tree
-use Rattle.syntax.proofs.Complete.{type_back}
+use Rattle.syntax.proofs.Parts.{type_back}
 use Rattle.names.specs.Uses.{uses}
 use Rattle.typing.specs.Rules.{same, where_fit, unary_type, binary_type, settled, divided}
 use Rattle.syntax.specs.Passing.{then}

@@ -1,5 +1,5 @@
 -- A table that is written is read, and so reading accepts exactly what is written. Assumes nothing.
-use Rattle.std.proofs.Common.{◌≡◌, ℕ, zero, suc, ◌+◌, ◌*◌, ◌/◌, ◌%◌, ◌<◌, ◌≤◌, true, cond, eqb, ltb, List, [], ◌∷◌, ◌++◌, length, get_or, take, drop, Ok, Err, sym, refl, ap, ◌∙◌, subst, arith}
+use Rattle.std.proofs.Common.{◌≡◌, ℕ, zero, suc, ◌+◌, ◌<◌, ◌≤◌, true, cond, eqb, ltb, List, [], ◌∷◌, ◌++◌, length, get_or, take, drop, Ok, Err, sym, refl, ap, ◌∙◌, subst, arith}
 use Rattle.std.specs.List.{AllByRecursion}
 use Rattle.std.proofs.ByRecursion.{All-take}
 use Rattle.std.proofs.lemmas.Bool.Decides.{nat_tests}
@@ -11,7 +11,7 @@ use Rattle.values.specs.Types.{code}
 use Rattle.values.specs.Bytes.{encoded}
 use Rattle.syntax.specs.declared.record.Kind.{Kind}
 use Rattle.syntax.specs.Answers.{Found, then}
-use Rattle.syntax.specs.Heads.{named, value_from}
+use Rattle.syntax.specs.Parts.{named, value_from}
 use Rattle.syntax.specs.Parsing.{parse}
 use Rattle.syntax.specs.Entries.{Entry, kind_of, kind_code, kind_coded, limit, count}
 use Rattle.syntax.specs.Entries as entry
@@ -19,8 +19,10 @@ use Rattle.syntax.specs.Reading.{many, at_most, body, filled, framed, frame, ent
 use Rattle.syntax.specs.Written.{written, Bounded, HasType, placed, joined, payload, inner, write_entry, write, Small, each, placed_payload, placed_entry, AcceptsWritten}
 use Rattle.syntax.proofs.SameKind.{kind_back}
 use Rattle.syntax.proofs.Stand.{Stands, split, first, front_long, narrowed}
-use Rattle.syntax.proofs.Complete.{type_is, value_is, complete}
+use Rattle.syntax.proofs.Complete.{complete}
 use Rattle.syntax.proofs.Whole.{count_push, read_kept}
+use Rattle.syntax.proofs.Parts.{type_is, value_is, span_is}
+use Rattle.syntax.specs.Passing as passing
 
 each_same : {X : Type 0} (w : X → List ℕ) (at : ℕ) (xs : List X) → each (λ _ x. x) w at xs ≡ xs
 each_same w at [] = refl
@@ -89,20 +91,13 @@ module _ (bs : List ℕ) (small : AllByRecursion (λ b. b < 256) bs) where
   entry_is : (before : List Entry) (r : Entry) (at n : ℕ) → Stands bs at (write_entry r) n → n ≤ length bs → count (kind_of r) before < limit (kind_of r) → Small r → entry_from before bs at ≡ Ok (placed_entry at r, n)
   unfolding entry_from
   entry_is before r at n s h room l =
-      let L = length (inner r) in
-      let f1 = first (L / 256) (L % 256 ∷ inner r) at n s h in
-      let f2 = first (L % 256) (inner r) (at + 1) n f1.2 h in
-      let f3 = first (kind_code (kind_of r)) (payload r) (at + 1 + 1) n f2.2 h in
+      let sp = span_is bs small at n (inner r) s h in
+      let f3 = first (kind_code (kind_of r)) (payload r) (at + 2) n sp.1 h in
       let q3 = f3.2.next in
-      let q2 = f2.2.next in
-      let a = f1.1 in let b = f2.1 in
-      let stop : at + 2 + (get_or bs at 0 * 256 + get_or bs (at + 1) 0) ≡ n = omega (arith, a, b, q2) in
-      let two : at + 1 + 1 ≡ at + 2 = omega arith in
-      let three : at + 1 + 1 + 1 ≡ at + 3 = omega arith in
-      let kind : get_or bs (at + 2) 0 ≡ kind_code (kind_of r) = ap (λ x. get_or bs x 0) (sym two) ∙ f3.1 in
+      let three : at + 2 + 1 ≡ at + 3 = omega arith in
       let framed_is : frame bs at ≡ Ok (kind_of r, n) =
-      cond-true _ _ _ (lt-ltb (at + 1) (length bs) f2.0) ∙ ap (framed bs at) stop ∙ cond-true _ _ _ (le-leb n (length bs) h)
-      ∙ cond-true _ _ _ (lt-ltb (at + 2) n (omega (arith, q3))) ∙ ap (λ x. named (kind_coded x) (at + 2) n) kind ∙ ap (λ o. named o (at + 2) n) (kind_back (kind_of r)) in
+      ap (λ e. passing.then e (framed bs at)) sp.0
+      ∙ cond-true _ _ _ (lt-ltb (at + 2) n (omega (arith, q3))) ∙ ap (λ x. named (kind_coded x) (at + 2) n) f3.1 ∙ ap (λ o. named o (at + 2) n) (kind_back (kind_of r)) in
       let inside = narrowed bs n h (omega arith) (subst (λ x. Stands bs x (payload r) n) three f3.2) in
       ap (λ f. then f (λ k end. cond (ltb (count k before) (limit k)) (filled k (take end bs) (at + 3)) (Err (Limit (at + 2))))) framed_is
       ∙ cond-true _ _ _ (lt-ltb (count (kind_of r) before) (limit (kind_of r)) room)

@@ -1,18 +1,12 @@
 -- An expression that is written is read. Assumes nothing.
-use Rattle.std.proofs.Common.{◌≡◌, ℕ, zero, suc, ◌+◌, ◌<◌, ◌≤◌, false, cond, eqb, List, [], ◌∷◌, ◌++◌, length, get_or, take, drop, Some, Ok, Err, sym, refl, ap, ◌∙◌, arith}
+use Rattle.std.proofs.Common.{◌≡◌, ℕ, zero, suc, ◌+◌, ◌<◌, ◌≤◌, false, cond, eqb, List, [], ◌∷◌, ◌++◌, length, get_or, Some, Ok, Err, sym, refl, ap, ◌∙◌, arith}
 use Rattle.std.specs.List.{AllByRecursion}
-use Rattle.std.proofs.ByRecursion.{All-take, All-drop}
-use Rattle.std.proofs.lemmas.List.{take_at}
-use Rattle.std.proofs.lemmas.Bool.{lt-ltb, le-ltb, le-leb, cond-true, cond-false}
+use Rattle.std.proofs.lemmas.Bool.{lt-ltb, le-ltb, cond-true, cond-false}
 use Rattle.std.proofs.lemmas.Bool.Decides.{nat_tests}
 use Rattle.faults.specs.declared.cause.Cause.TheVariants.{Limit}
-use Rattle.values.specs.declared.types.«Type».{«Type» as Ty}
-use Rattle.values.specs.declared.types.«Type».TheVariants as type
-use Rattle.values.specs.declared.value.Value.{Value}
-use Rattle.values.specs.Types.{code, type_coded, size}
-use Rattle.values.specs.Values.{type_of, Proper}
-use Rattle.values.specs.Bytes.{encoded, decoded}
-use Rattle.values.proofs.Encoding.{decodes, length_encoded}
+use Rattle.values.specs.Types.{code}
+use Rattle.values.specs.Values.{type_of}
+use Rattle.values.specs.Bytes.{encoded}
 use Rattle.operators.specs.declared.operator.Unary.TheVariants.{Not, Negate}
 use Rattle.operators.specs.declared.operator.Binary.TheVariants.{And, Or, Add, Subtract, Multiply, Quotient, Remainder, Equal, Less, AtMost}
 use Rattle.syntax.specs.declared.codes.Op.{Op}
@@ -20,11 +14,13 @@ use Rattle.syntax.specs.declared.codes.Op.TheVariants.{Constant, Channel, Stream
 use Rattle.syntax.specs.declared.tree.Node.TheVariants as node
 use Rattle.syntax.specs.Answers.{then}
 use Rattle.syntax.specs.Codes.{op_code, op_coded}
-use Rattle.syntax.specs.Heads.{head, after, at_level, named, type_from, value_from}
+use Rattle.syntax.specs.Parts.{value_from}
+use Rattle.syntax.specs.Heads.{head, after, at_level}
 use Rattle.syntax.specs.Parsing.{grown, parse}
 use Rattle.syntax.specs.Trees.{Exp, constant, channel, stream, unary, cast, binary, choose}
 use Rattle.syntax.specs.Written.{written, Bounded, placed}
 use Rattle.syntax.proofs.Stand.{Stands, split, first}
+use Rattle.syntax.proofs.Parts.{type_is, value_is}
 
 code_back : (o : Op) → op_coded (op_code o) ≡ Some o
 code_back Constant = refl
@@ -45,30 +41,8 @@ code_back (Binary Less) = refl
 code_back (Binary AtMost) = refl
 code_back Choose = refl
 
-pub type_back : (t : Ty) → type_coded (code t) ≡ Some t
-type_back type.Bool = refl
-type_back type.Word8 = refl
-type_back type.Word16 = refl
-type_back type.Word32 = refl
-type_back type.Word64 = refl
-type_back type.Int8 = refl
-type_back type.Int16 = refl
-type_back type.Int32 = refl
-type_back type.Int64 = refl
-
 deep : (d : ℕ) → eqb (suc d) 0 ≡ false
 deep d = grind (arith, nat_tests)
-
-some_bytes : (t : Ty) → 1 ≤ size t
-some_bytes type.Bool = omega arith
-some_bytes type.Word8 = omega arith
-some_bytes type.Word16 = omega arith
-some_bytes type.Word32 = omega arith
-some_bytes type.Word64 = omega arith
-some_bytes type.Int8 = omega arith
-some_bytes type.Int16 = omega arith
-some_bytes type.Int32 = omega arith
-some_bytes type.Int64 = omega arith
 
 module _ (bs : List ℕ) (small : AllByRecursion (λ b. b < 256) bs) where
   -- the head where an operator's code stands
@@ -79,22 +53,6 @@ module _ (bs : List ℕ) (small : AllByRecursion (λ b. b < 256) bs) where
       ∙ ap (λ x. then (at_level (suc d) at x) (λ o n. after bs at o)) (code_back o)
       ∙ ap (λ b. then (cond b (Err (Limit at)) (Ok (o, at))) (λ o n. after bs at o)) (deep d)
 
-  pub type_is : (t : Ty) (at : ℕ) → at < length bs → get_or bs at 0 ≡ code t → type_from bs at ≡ Ok (t, at + 1)
-  type_is t at h e = cond-true _ _ _ (lt-ltb at (length bs) h) ∙ ap (λ x. named (type_coded x) at (at + 1)) e ∙ ap (λ o. named o at (at + 1)) (type_back t)
-
-  pub value_is : (v : Value) (at n : ℕ) → Stands bs at (encoded v) n → n ≤ length bs → Proper v → value_from bs (type_of v) at ≡ Ok (v, n)
-  value_is v at n s h p =
-      let t = type_of v in
-      let l = length_encoded v in
-      let e = s.next in
-      let m : at + size t ≡ n = omega (arith, l, e) in
-      let lt : at < length bs = omega (arith, m, some_bytes t) in
-      let here : take (size t) (drop at bs) ≡ encoded v = ap (take (size t)) s.here ∙ take_at (encoded v) (drop n bs) (size t) l in
-      let bytes = All-take (λ b. b < 256) (size t) (drop at bs) (All-drop (λ b. b < 256) at bs small) in
-      let is : decoded t (take (size t) (drop at bs)) ≡ Some v = (decodes t (take (size t) (drop at bs)) bytes v).1 (record { typed = refl; proper = p; written = here }) in
-      cond-true _ _ _ (lt-ltb at (length bs) lt) ∙ cond-true _ _ _ (le-leb (at + size t) (length bs) (omega (arith, m)))
-      ∙ (λ i. named (is i) at (m i))
-
   pub complete : (d : ℕ) (e : Exp) (at n : ℕ) → Stands bs at (written e) n → n ≤ length bs → Bounded d e → parse d bs at ≡ Ok (placed at e, n)
   unfolding parse
   complete zero e at n s h b = absurd b
@@ -103,8 +61,8 @@ module _ (bs : List ℕ) (small : AllByRecursion (λ b. b < 256) bs) where
       let g = first (code (type_of v)) (encoded v) (at + 1) n f.2 h in
       ap (λ x. then x (grown (parse d bs) at))
       (head_is d at Constant f.0 f.1
-      ∙ ap (λ x. then x (λ t n. then (value_from bs t n) (λ v m. Ok (node.Constant v, m)))) (type_is (type_of v) (at + 1) g.0 g.1)
-      ∙ ap (λ x. then x (λ v m. Ok (node.Constant v, m))) (value_is v (at + 1 + 1) n g.2 h b))
+      ∙ ap (λ x. then x (λ t n. then (value_from bs t n) (λ v m. Ok (node.Constant v, m)))) (type_is bs small (type_of v) (at + 1) g.0 g.1)
+      ∙ ap (λ x. then x (λ v m. Ok (node.Constant v, m))) (value_is bs small v (at + 1 + 1) n g.2 h b))
   complete (suc d) (channel p i) at n s h b =
       let f = first 0x02 (i ∷ []) at n s h in
       let g = first i [] (at + 1) n f.2 h in
@@ -134,7 +92,7 @@ module _ (bs : List ℕ) (small : AllByRecursion (λ b. b < 256) bs) where
       let f = first 0x60 (code t ∷ written e) at n s h in
       let g = first (code t) (written e) (at + 1) n f.2 h in
       let two : at + 1 + 1 ≡ at + 2 = omega arith in
-      ap (λ x. then x (grown (parse d bs) at)) (head_is d at Cast f.0 f.1 ∙ ap (λ x. then x (λ t n. Ok (node.Cast t, n))) (type_is t (at + 1) g.0 g.1))
+      ap (λ x. then x (grown (parse d bs) at)) (head_is d at Cast f.0 f.1 ∙ ap (λ x. then x (λ t n. Ok (node.Cast t, n))) (type_is bs small t (at + 1) g.0 g.1))
       ∙ ap (λ x. then x (λ e m. Ok (cast at t e, m))) (complete d e (at + 1 + 1) n g.2 h b)
       ∙ ap (λ a. Ok (cast at t (placed a e), n)) two
   complete (suc d) (binary p o u v) at n s h b =

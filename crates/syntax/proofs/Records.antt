@@ -1,20 +1,21 @@
 -- Records that are read were written so. Assumes nothing.
-use Rattle.std.proofs.Common.{◌≡◌, ℕ, zero, suc, ◌+◌, ◌*◌, ◌/◌, ◌%◌, ◌<◌, ◌≤◌, eqb, ltb, leb, List, [], ◌∷◌, ◌++◌, length, get_or, take, sym, refl, ap, ◌∙◌, subst, arith}
+use Rattle.std.proofs.Common.{◌≡◌, ℕ, zero, suc, ◌+◌, ◌<◌, ◌≤◌, eqb, ltb, leb, List, [], ◌∷◌, ◌++◌, length, get_or, take, sym, refl, ap, ◌∙◌, subst, arith}
 use Rattle.std.specs.List.{AllByRecursion}
-use Rattle.std.proofs.ByRecursion.{All-get_or, All-take}
+use Rattle.std.proofs.ByRecursion.{All-take}
 use Rattle.std.proofs.lemmas.Bool.{ltb-true, leb-true, eqb-true}
 use Rattle.values.specs.Types.{code}
 use Rattle.values.specs.Bytes.{encoded}
 use Rattle.syntax.specs.declared.record.Kind.{Kind}
 use Rattle.syntax.specs.declared.record.Kind.TheVariants.{Channel, Stream, Rule}
 use Rattle.syntax.specs.Answers.{Found}
-use Rattle.syntax.specs.Heads.{type_from, value_from}
+use Rattle.syntax.specs.Parts.{type_from, value_from, span}
 use Rattle.syntax.specs.Parsing.{parse}
 use Rattle.syntax.specs.Entries.{Entry, kind_of, kind_code, kind_coded, limit, count}
 use Rattle.syntax.specs.Reading.{many, at_most, body, filled, frame, entry_from}
 use Rattle.syntax.specs.Written.{written, Bounded, HasType, joined, payload, inner, write_entry, Small}
-use Rattle.syntax.proofs.Stand.{Stands, nothing, byte, join, as_byte, front_long, widened, Good, good_then, good_if, good_weaker, good_named, coded}
-use Rattle.syntax.proofs.Sound.{TAt, EAt, sound_type, sound_value, sound}
+use Rattle.syntax.proofs.Stand.{Stands, nothing, byte, join, as_byte, front_long, widened, Good, good_then, good_if, good_weaker, good_named, coded, good_after}
+use Rattle.syntax.proofs.Sound.{EAt, sound}
+use Rattle.syntax.proofs.Parts.{TAt, SAt, sound_type, sound_value, sound_span, sized_stands}
 
 module _ (bs : List ℕ) (small : AllByRecursion (λ b. b < 256) bs) where
   abbrev XAt : {X : Type 0} → (X → List ℕ) → (X → Type 0) → ℕ → X → ℕ → Type 0
@@ -74,34 +75,22 @@ module _ (bs : List ℕ) (small : AllByRecursion (λ b. b < 256) bs) where
 
 module _ (bs : List ℕ) (small : AllByRecursion (λ b. b < 256) bs) where
   abbrev FAt : ℕ → Kind → ℕ → Type 0
-  FAt at k end = (at + 2 < end) × (end ≤ length bs) × (get_or bs (at + 2) 0 ≡ kind_code k) × (end ≡ at + 2 + (get_or bs at 0 * 256 + get_or bs (at + 1) 0))
+  FAt at k end = SAt bs at end × (at + 2 < end) × (get_or bs (at + 2) 0 ≡ kind_code k)
 
   sound_frame : (at : ℕ) → Good (FAt at) (frame bs at)
   sound_frame at =
-      let end = at + 2 + (get_or bs at 0 * 256 + get_or bs (at + 1) 0) in
-      good_if (FAt at) (ltb (at + 1) (length bs)) _ _ (λ b.
-      good_if (FAt at) (leb end (length bs)) _ _ (λ l.
+      good_after (SAt bs at) (FAt at) (span bs at) _ (sound_span bs at) (λ end s.
       good_if (FAt at) (ltb (at + 2) end) _ _ (λ f.
       good_named (FAt at) (kind_coded (get_or bs (at + 2) 0)) (at + 2) end (λ k e.
-      (ltb-true (at + 2) end f, leb-true end (length bs) l, coded kind_code (Channel ∷ Stream ∷ Rule ∷ []) (get_or bs (at + 2) 0) k e, refl)))))
+      (s, ltb-true (at + 2) end f, coded kind_code (Channel ∷ Stream ∷ Rule ∷ []) (get_or bs (at + 2) 0) k e))))
 
   -- length, kind and what follows stand as the record is written
   entry_stands : (at end : ℕ) (k : Kind) (r : Entry) → FAt at k end → Stands bs (at + 3) (payload r) end → kind_of r ≡ k → Stands bs at (write_entry r) end
   entry_stands at end k r f p e =
-      let h0 = f.0 in let h1 = f.1 in
-      let a = get_or bs at 0 in
-      let b = get_or bs (at + 1) 0 in
-      let e1 : at + 1 + 1 ≡ at + 2 = omega arith in
+      let h0 = f.1 in let h1 = f.0.1 in
       let e2 : at + 2 + 1 ≡ at + 3 = omega arith in
       let kind = subst (λ n. Stands bs (at + 2) (kind_code (kind_of r) ∷ []) n) e2 (as_byte (byte (at + 2) (omega (arith, h0, h1))) (f.2 ∙ ap kind_code (sym e))) in
-      let second = subst (λ n. Stands bs (at + 1) (b ∷ []) n) e1 (byte (at + 1) (omega (arith, h0, h1))) in
-      let in_side : Stands bs (at + 2) (inner r) end = join kind p in
-      let all : Stands bs at (a ∷ (b ∷ inner r)) end = join (byte at (omega (arith, h0, h1))) (join second in_side) in
-      let long : length (inner r) ≡ a * 256 + b = omega (arith, in_side.next, f.3) in
-      let low : b < 256 = All-get_or (λ x. x < 256) bs (at + 1) 0 (omega (arith, h0, h1)) small in
-      let q : a ≡ length (inner r) / 256 = omega arith in
-      let m : b ≡ length (inner r) % 256 = omega arith in
-      subst (λ x. Stands bs at (x ∷ (length (inner r) % 256 ∷ inner r)) end) q (subst (λ x. Stands bs at (a ∷ (x ∷ inner r)) end) m all)
+      sized_stands bs small at end (inner r) f.0 (join kind p)
 
   abbrev pub RAt : List Entry → ℕ → Entry → ℕ → Type 0
   RAt before at r n = Stands bs at (write_entry r) n × (n ≤ length bs) × (at < n) × Small r × (count (kind_of r) before < limit (kind_of r))
@@ -114,11 +103,11 @@ module _ (bs : List ℕ) (small : AllByRecursion (λ b. b < 256) bs) where
       let byte_part = All-take (λ b. b < 256) end bs small in
       good_if (RAt before at) (ltb (count k before) (limit k)) _ _ (λ room.
       good_weaker (WAt part byte_part k (at + 3)) (RAt before at) (filled k part (at + 3)) (sound_filled part byte_part k (at + 3)) (λ r n p.
-      let z : n ≡ end = p.1 ∙ front_long bs end f.1 in
-      let inside = widened bs end f.1 (omega (arith, z)) p.0 in
-      let h0 = f.0 in (
+      let z : n ≡ end = p.1 ∙ front_long bs end f.0.1 in
+      let inside = widened bs end f.0.1 (omega (arith, z)) p.0 in
+      let h0 = f.1 in (
         subst (λ x. Stands bs at (write_entry r) x) (sym z) (entry_stands at end k r f (subst (λ x. Stands bs (at + 3) (payload r) x) z inside) p.3),
-        omega (arith, f.1, z),
+        omega (arith, f.0.1, z),
         omega (arith, h0, z),
         p.2,
         subst (λ x. count x before < limit x) (sym p.3) (ltb-true (count k before) (limit k) room),

@@ -1,14 +1,10 @@
 -- An expression that is read was written so. Assumes nothing.
-use Rattle.std.proofs.Common.{◌≡◌, ℕ, zero, suc, ◌+◌, ◌<◌, ◌≤◌, eqb, ltb, leb, List, [], ◌∷◌, length, get_or, take, drop, Some, None, Ok, Err, Option, sym, refl, subst, arith}
+use Rattle.std.proofs.Common.{◌≡◌, ℕ, zero, suc, ◌+◌, ◌<◌, ◌≤◌, eqb, ltb, List, [], ◌∷◌, length, get_or, Some, None, Ok, Err, Option, sym, refl, subst, arith}
 use Rattle.std.specs.List.{AllByRecursion}
-use Rattle.std.proofs.ByRecursion.{All-take, All-drop}
-use Rattle.std.proofs.lemmas.Bool.{ltb-true, ltb-false, leb-true, eqb-false}
-use Rattle.values.specs.declared.types.«Type».{«Type» as Ty}
-use Rattle.values.specs.declared.value.Value.{Value}
-use Rattle.values.specs.Types.{code, types, type_coded, size}
+use Rattle.std.proofs.lemmas.Bool.{ltb-true, ltb-false, eqb-false}
+use Rattle.values.specs.Types.{code}
 use Rattle.values.specs.Values.{type_of, Proper}
-use Rattle.values.specs.Bytes.{encoded, decoded}
-use Rattle.values.proofs.Encoding.{decodes}
+use Rattle.values.specs.Bytes.{encoded}
 use Rattle.syntax.specs.declared.codes.Op.{Op}
 use Rattle.syntax.specs.declared.codes.Op.TheVariants.{Constant, Channel, Stream, Unary, Cast, Binary, Choose}
 use Rattle.syntax.specs.declared.tree.Node.{Node}
@@ -16,10 +12,12 @@ use Rattle.syntax.specs.declared.tree.Node.TheVariants as node
 use Rattle.syntax.specs.Codes.{op_code, unary_code, binary_code, ops, op_coded}
 use Rattle.syntax.specs.Trees.{Exp}
 use Rattle.syntax.specs.Answers.{Found}
-use Rattle.syntax.specs.Heads.{head, after, at_level, type_from, value_from}
+use Rattle.syntax.specs.Parts.{type_from, value_from}
+use Rattle.syntax.specs.Heads.{head, after, at_level}
 use Rattle.syntax.specs.Parsing.{grown, parse}
-use Rattle.syntax.specs.Written.{written, Bounded, HasType}
-use Rattle.syntax.proofs.Stand.{Stands, byte, join, chunk, as_byte, Good, good_then, good_if, good_unless, good_named, coded}
+use Rattle.syntax.specs.Written.{written, Bounded}
+use Rattle.syntax.proofs.Stand.{Stands, byte, join, as_byte, Good, good_then, good_if, good_unless, coded}
+use Rattle.syntax.proofs.Parts.{TAt, VAt, sound_type, sound_value}
 
 -- the bytes of a head
 abbrev head_bytes : Node → List ℕ
@@ -42,37 +40,16 @@ Light (node.Binary o) = Unit {0}
 Light node.Choose = Unit {0}
 
 module _ (bs : List ℕ) (small : AllByRecursion (λ b. b < 256) bs) where
-  abbrev pub TAt : ℕ → Ty → ℕ → Type 0
-  TAt at t n = Stands bs at (code t ∷ []) n × (n ≤ length bs)
-
-  abbrev pub VAt : Ty → ℕ → Value → ℕ → Type 0
-  VAt t at v n = Stands bs at (encoded v) n × (n ≤ length bs) × HasType t v
-
   abbrev HAt : ℕ → Node → ℕ → Type 0
   HAt at x n = Stands bs at (head_bytes x) n × (n ≤ length bs) × Light x
 
   abbrev pub EAt : ℕ → ℕ → Exp → ℕ → Type 0
   EAt d at e n = Stands bs at (written e) n × (n ≤ length bs) × Bounded d e
 
-  pub sound_type : (at : ℕ) → Good (TAt at) (type_from bs at)
-  sound_type at =
-      good_if (TAt at) (ltb at (length bs)) _ _ (λ b. let lt = ltb-true at (length bs) b in
-      good_named (TAt at) (type_coded (get_or bs at 0)) at (at + 1) (λ t e. (as_byte (byte at (omega arith)) (coded code types (get_or bs at 0) t e), omega arith)))
-
-  pub sound_value : (t : Ty) (at : ℕ) → Good (VAt t at) (value_from bs t at)
-  sound_value t at =
-      let ws = take (size t) (drop at bs) in
-      let u = All-take (λ b. b < 256) (size t) (drop at bs) (All-drop (λ b. b < 256) at bs small) in
-      good_if (VAt t at) (ltb at (length bs)) _ _ (λ b.
-      good_if (VAt t at) (leb (at + size t) (length bs)) _ _ (λ g. let h = leb-true (at + size t) (length bs) g in
-      good_named (VAt t at) (decoded t ws) at (at + size t) (λ v e.
-      let w = (decodes t ws u v).0 e in
-      (subst (λ l. Stands bs at l (at + size t)) w.written (chunk at (size t) h), h, (w.typed, w.proper)))))
-
   sound_after : (at : ℕ) (o : Op) → at < length bs → get_or bs at 0 ≡ op_code o → Good (HAt at) (after bs at o)
   sound_after at Constant h e =
-      good_then (TAt (at + 1)) (HAt at) (type_from bs (at + 1)) _ (sound_type (at + 1)) (λ t n p.
-      good_then (VAt t n) (HAt at) (value_from bs t n) _ (sound_value t n) (λ v m q. (
+      good_then (TAt bs small (at + 1)) (HAt at) (type_from bs (at + 1)) _ (sound_type bs small (at + 1)) (λ t n p.
+      good_then (VAt bs small t n) (HAt at) (value_from bs t n) _ (sound_value bs small t n) (λ v m q. (
         subst (λ k. Stands bs at (0x01 ∷ (code k ∷ encoded v)) m) (sym q.2.0) (join (as_byte (byte at (omega arith)) e) (join p.0 q.0)),
         q.1,
         q.2.1,
@@ -93,7 +70,7 @@ module _ (bs : List ℕ) (small : AllByRecursion (λ b. b < 256) bs) where
       (join (as_byte (byte at (omega arith)) e) (join number ahead), omega arith, ltb-false 63 (get_or bs (at + 2) 0) f))))
   sound_after at (Unary o) h e = (as_byte (byte at (omega arith)) e, omega arith, tt)
   sound_after at Cast h e =
-      good_then (TAt (at + 1)) (HAt at) (type_from bs (at + 1)) _ (sound_type (at + 1)) (λ t n p.
+      good_then (TAt bs small (at + 1)) (HAt at) (type_from bs (at + 1)) _ (sound_type bs small (at + 1)) (λ t n p.
       (join (as_byte (byte at (omega arith)) e) p.0, p.1, tt))
   sound_after at (Binary o) h e = (as_byte (byte at (omega arith)) e, omega arith, tt)
   sound_after at Choose h e = (as_byte (byte at (omega arith)) e, omega arith, tt)

@@ -1,11 +1,12 @@
 -- Bytes that stand at a place, and what holds of a part that was found. Assumes nothing.
-use Rattle.std.proofs.Common.{◌≡◌, ℕ, ◌+◌, ◌-◌, ◌<◌, ◌≤◌, Bool, true, false, cond, eqb, List, [], ◌∷◌, ◌++◌, length, get_or, take, drop, Some, None, Ok, Err, Option, sym, refl, ap, ◌∙◌, subst, arith}
+use Rattle.std.proofs.Common.{◌≡◌, ℕ, ◌+◌, ◌-◌, ◌<◌, ◌≤◌, Bool, true, false, cond, eqb, List, [], ◌∷◌, ◌++◌, length, get_or, take, drop, Some, None, Ok, Err, Option, sym, refl, ap, ◌∙◌, subst, arith, Result}
 use Rattle.std.proofs.lemmas.List.{append_assoc, drop_more, drop-drop, drop_at, drop-append-le, take_at, take-append-drop, length-take-le, length-drop, length-append}
 use Rattle.std.proofs.lemmas.Bool.{cond_both, eqb-true}
 use Rattle.faults.specs.declared.cause.Cause.{Cause}
 use Rattle.values.specs.Types.{first_coded}
 use Rattle.syntax.specs.Answers.{Found, then}
-use Rattle.syntax.specs.Heads.{named}
+use Rattle.syntax.specs.Parts.{named}
+use Rattle.syntax.specs.Passing as passing
 
 -- ws stands at a place, and n is the place after it
 pub record Stands (bs : List ℕ) (at : ℕ) (ws : List ℕ) (n : ℕ) : Type 0 where
@@ -91,6 +92,11 @@ abbrev pub Good : {X : Type 0} → (X → ℕ → Type 0) → Found X → Type 0
 Good P (Ok p) = P p.0 p.1
 Good P (Err x) = Unit {0}
 
+-- Q of what reading ends with
+abbrev pub Ends : {Y : Type 0} → (Y → Type 0) → Result Y Cause → Type 0
+Ends Q (Ok y) = Q y
+Ends Q (Err x) = Unit {0}
+
 pub good_then : {X Y : Type 0} (P : X → ℕ → Type 0) (Q : Y → ℕ → Type 0) (f : Found X) (g : X → ℕ → Found Y) → Good P f → ((x : X) (n : ℕ) → P x n → Good Q (g x n)) → Good Q (then f g)
 good_then P Q (Ok p) g h k = k p.0 p.1 h
 good_then P Q (Err x) g h k = tt
@@ -118,3 +124,8 @@ coded f (y ∷ ys) n x e =
     (λ t e. eqb-true n (f y) t ∙ ap f (cc))
     (λ t e. coded f ys n x e)
     e
+
+-- what follows a part that was found without a place
+pub good_after : {X Y : Type 0} (P : X → Type 0) (Q : Y → ℕ → Type 0) (r : Result X Cause) (g : X → Found Y) → Ends P r → ((x : X) → P x → Good Q (g x)) → Good Q (passing.then r g)
+good_after P Q (Ok x) g h k = k x h
+good_after P Q (Err c) g h k = tt

@@ -8,7 +8,8 @@ use Rattle.std.proofs.lemmas.Bool.Decides.{nat_tests}
 use Rattle.syntax.specs.Answers.{then}
 use Rattle.syntax.specs.Codes.{op_coded}
 use Rattle.syntax.specs.Trees.{channel}
-use Rattle.syntax.specs.Heads.{head, byte_from, type_from, value_from}
+use Rattle.syntax.specs.Parts.{byte_from, type_from, value_from}
+use Rattle.syntax.specs.Heads.{head}
 use Rattle.syntax.specs.Parsing.{grown, parse}
 
 -- where no head stands, no expression does

@@ -1,7 +1,7 @@
 -- A table that is read was written so. Assumes nothing.
 use Rattle.std.proofs.Common.{◌≡◌, ℕ, zero, suc, ◌+◌, ◌<◌, ◌≤◌, cond, eqb, ltb, leb, List, [], ◌∷◌, ◌++◌, length, get_or, drop, Ok, Err, Result, sym, ap, ◌∙◌, subst, arith}
 use Rattle.std.specs.List.{AllByRecursion}
-use Rattle.std.proofs.lemmas.List.{append_assoc, append-nil, drop_all, drop_more}
+use Rattle.std.proofs.lemmas.List.{append-nil, drop_all, drop_more}
 use Rattle.std.proofs.ByRecursion.{All-append}
 use Rattle.std.proofs.lemmas.Bool.{ltb-false, leb-true, eqb-true, cond_both}
 use Rattle.faults.specs.declared.cause.Cause.{Cause}
@@ -10,23 +10,15 @@ use Rattle.syntax.specs.declared.record.Kind.TheVariants.{Channel, Stream, Rule}
 use Rattle.syntax.specs.Answers.{Found, then}
 use Rattle.syntax.specs.Entries.{Entry, kind_of, kind_code, limit, count}
 use Rattle.syntax.specs.Reading.{entry_from, entries, read_table}
-use Rattle.syntax.specs.Written.{joined, write_entry, write, Small}
+use Rattle.syntax.specs.Written.{write_entry, write, Small}
 use Rattle.syntax.proofs.SameKind.{same_kind}
-use Rattle.syntax.proofs.Stand.{Stands, nothing, join, Good}
+use Rattle.syntax.proofs.Stand.{Stands, nothing, join, Good, Ends}
 use Rattle.syntax.proofs.Records.{RAt, sound_entry}
-
--- Q of what reading ends with
-abbrev Ends : {Y : Type 0} → (Y → Type 0) → Result Y Cause → Type 0
-Ends Q (Ok y) = Q y
-Ends Q (Err x) = Unit {0}
+use Rattle.syntax.proofs.Parts.{joined_push}
 
 ends_then : {X Y : Type 0} (P : X → ℕ → Type 0) (Q : Y → Type 0) (f : Found X) (g : X → ℕ → Result Y Cause) → Good P f → ((x : X) (n : ℕ) → P x n → Ends Q (g x n)) → Ends Q (then f g)
 ends_then P Q (Ok p) g h k = k p.0 p.1 h
 ends_then P Q (Err x) g h k = tt
-
-joined_push : {X : Type 0} (w : X → List ℕ) (xs : List X) (x : X) → joined w (xs ++ (x ∷ [])) ≡ joined w xs ++ w x
-joined_push w [] x = append-nil (w x)
-joined_push w (y ∷ ys) x = ap (λ l. w y ++ l) (joined_push w ys x) ∙ sym (append_assoc (w y) (joined w ys) (w x))
 
 pub count_push : (k : Kind) (rs : List Entry) (r : Entry) → count k (rs ++ (r ∷ [])) ≡ count k rs + cond (eqb (kind_code (kind_of r)) (kind_code k)) 1 0
 count_push k [] r = omega arith

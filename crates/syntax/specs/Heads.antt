@@ -1,39 +1,13 @@
 -- The first bytes of an expression, before its operands. The list ends where the record ends. Assumes nothing.
-use Rattle.std.specs.Prelude.{ℕ, ◌+◌, cond, List, length, take, drop, Some, None, Ok, Err, Option, ◌==◌, nat_le, nat_lt, slice_index}
+use Rattle.std.specs.Prelude.{ℕ, ◌+◌, cond, List, Some, None, Ok, Err, Option, ◌==◌, nat_lt, slice_index}
 use Rattle.faults.specs.declared.cause.Cause.TheVariants.{Malformed, Limit}
-use Rattle.values.specs.declared.types.«Type».{«Type» as Ty}
-use Rattle.values.specs.declared.value.Value.{Value}
-use Rattle.values.specs.Types.{size, type_coded}
-use Rattle.values.specs.Bytes.{decoded}
 use Rattle.syntax.specs.declared.codes.Op.{Op}
 use Rattle.syntax.specs.declared.codes.Op.TheVariants.{Constant, Channel, Stream, Unary, Cast, Binary, Choose}
 use Rattle.syntax.specs.declared.tree.Node.{Node}
 use Rattle.syntax.specs.declared.tree.Node.TheVariants as node
 use Rattle.syntax.specs.Answers.{Found, then}
+use Rattle.syntax.specs.Parts.{within, type_from, value_from}
 use Rattle.syntax.specs.Codes.{op_coded}
-
--- x where the byte at a place is there; a missing byte is refused at the end
-abbrev pub within : {X : Type 0} → List ℕ → ℕ → Found X → Found X
-within bs at x = cond (nat_lt at (length bs)) x (Err (Malformed (length bs)))
-
--- what the bytes from one place to another name
-abbrev pub named : {X : Type 0} → Option X → ℕ → ℕ → Found X
-named None at next = Err (Malformed at)
-named (Some x) at next = Ok (x, next)
-
--- the byte at a place
-abbrev pub byte_from : List ℕ → ℕ → Found ℕ
-byte_from bs at = within bs at (Ok (slice_index bs at, at + 1))
-
--- the type whose code stands at a place
-abbrev pub type_from : List ℕ → ℕ → Found Ty
-type_from bs at = within bs at (named (type_coded (slice_index bs at)) at (at + 1))
-
--- the value of a type that stands at a place
-abbrev pub value_from : List ℕ → Ty → ℕ → Found Value
-value_from bs t at =
-    within bs at
-    (cond (nat_le (at + size t) (length bs)) (named (decoded t (take (size t) (drop at bs))) at (at + size t)) (Err (Malformed (length bs))))
 
 -- what follows a code
 abbrev pub after : List ℕ → ℕ → Op → Found Node

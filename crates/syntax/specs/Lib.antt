@@ -1,6 +1,7 @@
 pub mod Codes
 pub mod Trees
 pub mod Answers
+pub mod Parts
 pub mod Heads
 pub mod Readers
 pub mod Parsing

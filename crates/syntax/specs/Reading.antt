@@ -1,15 +1,16 @@
 -- What stands in bytes as a table, or why nothing does. Assumes nothing.
-use Rattle.std.specs.Prelude.{◌≡◌, ℕ, zero, suc, ◌+◌, ◌*◌, ◌<◌, ◌≤◌, cond, List, [], ◌∷◌, ◌++◌, length, take, Ok, Err, Result, Vec, ◌==◌, nat_le, nat_lt, slice_index}
+use Rattle.std.specs.Prelude.{◌≡◌, ℕ, zero, suc, ◌+◌, ◌<◌, ◌≤◌, cond, List, [], ◌∷◌, ◌++◌, length, take, Ok, Err, Result, Vec, ◌==◌, nat_le, nat_lt, slice_index}
 use Rattle.std.specs.declared.alloc.Global.{Global}
 use Rattle.faults.specs.declared.cause.Cause.{Cause}
-use Rattle.faults.specs.declared.cause.Cause.TheVariants.{Version, Ended, Malformed, Limit}
+use Rattle.faults.specs.declared.cause.Cause.TheVariants.{Version, Malformed, Limit}
 use Rattle.syntax.specs.declared.record.Kind.{Kind}
 use Rattle.syntax.specs.declared.record.Kind.TheVariants.{Channel, Stream, Rule}
 use Rattle.syntax.specs.declared.record.Record.{Record}
 use Rattle.faults.specs.declared.stop.Stop.{Stop}
 use Rattle.faults.specs.declared.stop.Stop.TheVariants.{Refused, Memory}
 use Rattle.syntax.specs.Answers.{Found, then}
-use Rattle.syntax.specs.Heads.{within, named, type_from, value_from}
+use Rattle.syntax.specs.Parts.{within, named, type_from, value_from, span}
+use Rattle.syntax.specs.Passing as passing
 use Rattle.syntax.specs.Parsing.{parse}
 use Rattle.syntax.specs.Entries.{Entry, channel, stream, rule, entries_of, kind_coded, count, limit}
 
@@ -35,16 +36,13 @@ body Rule bs at =
 abbrev pub filled : Kind → List ℕ → ℕ → Found Entry
 filled k bs at = then (body k bs at) (λ r n. cond (n == length bs) (Ok (r, n)) (Err (Malformed n)))
 
--- the record from one place to another, by its kind: an empty one is refused at its start
+-- the kind of the record from one place to another: an empty one is refused at its start
 abbrev pub framed : List ℕ → ℕ → ℕ → Found Kind
-framed bs at end =
-    cond (nat_le end (length bs))
-    (cond (nat_lt (at + 2) end) (named (kind_coded (slice_index bs (at + 2))) (at + 2) end) (Err (Malformed at)))
-    (Err (Ended at))
+framed bs at end = cond (nat_lt (at + 2) end) (named (kind_coded (slice_index bs (at + 2))) (at + 2) end) (Err (Malformed at))
 
 -- the kind of the record at a place, and the place after the record
 abbrev pub frame : List ℕ → ℕ → Found Kind
-frame bs at = cond (nat_lt (at + 1) (length bs)) (framed bs at (at + 2 + (slice_index bs at * 256 + slice_index bs (at + 1)))) (Err (Ended at))
+frame bs at = passing.then (span bs at) (framed bs at)
 
 -- the record at a place, after those before it
 unfoldable pub entry_from : List Entry → List ℕ → ℕ → Found Entry

@@ -23,6 +23,10 @@ written (cast at t e) = 0x60 ∷ (code t ∷ written e)
 written (binary at o a b) = binary_code o ∷ (written a ++ written b)
 written (choose at a b c) = 0x50 ∷ (written a ++ (written b ++ written c))
 
+-- bytes behind their length in two bytes
+abbrev pub sized : List ℕ → List ℕ
+sized ws = length ws / 256 ∷ (length ws % 256 ∷ ws)
+
 -- several, one after another
 abbrev pub joined : {X : Type 0} → (X → List ℕ) → List X → List ℕ
 joined w [] = []
@@ -40,7 +44,7 @@ inner r = kind_code (kind_of r) ∷ payload r
 
 -- how a record is written: its length in two bytes, its kind, and what follows
 abbrev pub write_entry : Entry → List ℕ
-write_entry r = length (inner r) / 256 ∷ (length (inner r) % 256 ∷ inner r)
+write_entry r = sized (inner r)
 
 -- how records are written
 abbrev pub write : List Entry → List ℕ

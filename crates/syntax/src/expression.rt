@@ -23,8 +23,11 @@ impl<'a> Reader<'a> {
     pub(crate) fn read_expression(&mut self, alloc: Global, depth: u8) -> Result<Expr, Stop>
         ensures { Reads exp self.old self.new result (parse depth self.old.bytes.now self.old.at) }
     {
-        let place = self.at as u16;
-        match self.head(depth)? {
+        let at = self.at;
+        let node = self.head(depth)?;
+        // A byte stands there, so its place fits.
+        let place = at as u16;
+        match node {
             Node::Constant(value) => Ok(Expr::Constant { place, value }),
             Node::Channel(number) => Ok(Expr::Channel { place, number }),
             Node::Stream(number, drop) => Ok(Expr::Stream {

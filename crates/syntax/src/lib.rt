@@ -4,9 +4,10 @@
 mod body;
 mod codes;
 mod expression;
+mod fields;
 mod head;
 mod part;
-mod reader;
+pub mod reader;
 pub mod record;
 pub mod table;
 pub mod tree;

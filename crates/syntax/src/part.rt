@@ -1,7 +1,7 @@
 // The parts of which a record has several, one after another.
 ghost use Rattle.std.specs.Prelude.{ℕ, List};
 ghost use Rattle.syntax.specs.Answers.{Found};
-ghost use Rattle.syntax.specs.Heads.{value_from};
+ghost use Rattle.syntax.specs.Parts.{value_from};
 ghost use Rattle.syntax.specs.Parsing.{parse};
 ghost use Rattle.syntax.specs.Readers.{Reads};
 ghost use Rattle.syntax.specs.Trees.{Exp, exp};

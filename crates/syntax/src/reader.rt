@@ -1,11 +1,12 @@
-// Reading the parts of a record from its bytes.
+// Bytes, and how far they were read.
 ghost use Rattle.std.specs.Prelude.{◌≤◌, length};
 
-// Bytes to the end of the table or of one record, and how far they were read.
+// Bytes to the end of the whole or of one record, and how far they were read.
 #[derive(Drop)]
-pub(crate) struct Reader<'a> {
-    pub(crate) bytes: &'a [u8],
-    pub(crate) at: usize,
-    ghost short: { length bytes.now ≤ 8192 },
+pub struct Reader<'a> {
+    pub bytes: &'a [u8],
+    pub at: usize,
+    // so that the place of a byte fits in 16 bits
+    ghost short: { length bytes.now ≤ 65536 },
     ghost inside: { at ≤ length bytes.now },
 }

@@ -25,19 +25,11 @@ impl<'a> Reader<'a> {
         ensures inside { IfOk result (λ p. (self.now.at + 2 < p.1) × (p.1 ≤ length self.now.bytes.now)) }
     {
         let at = self.at;
-        let bytes = self.bytes;
-        if at + 1 >= bytes.len() {
-            return Err(Cause::Ended(at));
-        }
-        let length = u16::from_be_bytes([bytes[at], bytes[at + 1]]);
-        let end = at + 2 + usize::from(length);
-        if end > bytes.len() {
-            return Err(Cause::Ended(at));
-        }
+        let end = self.span()?;
         if end <= at + 2 {
             return Err(Cause::Malformed(at));
         }
-        let kind = Kind::try_from(bytes[at + 2]).map_err(|_| Cause::Malformed(at + 2))?;
+        let kind = Kind::try_from(self.bytes[at + 2]).map_err(|_| Cause::Malformed(at + 2))?;
         Ok((kind, end))
     }
 

@@ -3,7 +3,7 @@ use Rattle.std.proofs.lemmas.Bool.Decides.{nat_tests}
 use Rattle.std.proofs.lemmas.Result.{err_from_is_err_and}
 use Rattle.syntax.specs.Answers.{then}
 use Rattle.syntax.specs.Codes.{op_coded}
-use Rattle.syntax.specs.Heads.{type_from, value_from}
+use Rattle.syntax.specs.Parts.{type_from, value_from}
 use Rattle.syntax.specs.declared.codes.Op.TheVariants.{Constant}
 use Rattle.syntax.specs.declared.tree.Node.TheVariants as node
 use Rattle.syntax.proofs.Steps.{head_constant}
