@@ -1,0 +1,36 @@
+-- How a hold bridges the latches at which the row below has nothing. Assumes nothing.
+use Rattle.std.specs.Prelude.{ℕ, ◌-◌, Bool, cond, List, Some, None, Option, ◌==◌, nat_lt, slice_index_or}
+use Rattle.std.specs.Option.{option_or}
+use Rattle.faults.specs.declared.cause.Cause.TheVariants.{Dark}
+use Rattle.faults.specs.declared.fault.Fault.{Fault}
+use Rattle.faults.specs.declared.fault.Layer.TheVariants as layer
+use Rattle.faults.specs.declared.upper.UpperFault.{UpperFault}
+use Rattle.faults.specs.Faults.{from_below, its_own}
+use Rattle.values.specs.declared.value.Value.{Value}
+use Rattle.sampling.specs.declared.channel.ChannelRecord.{ChannelRecord}
+use Rattle.sampling.specs.Rows.{Readings}
+
+-- of a channel that has not been read yet
+abbrev pub unread : ChannelRecord
+unread = record { last = None; left = 0 }
+
+-- the record after a latch at which the row below reads this at the channel, where so many latches running are bridged
+abbrev pub after : ℕ → ChannelRecord → Option Value → ChannelRecord
+after bridges r (Some v) = record { last = Some v; left = bridges }
+after bridges r None = cond (r.left == 0) unread record { last = r.last; left = r.left - 1 }
+
+-- the record of a channel
+abbrev pub record_at : List ChannelRecord → ℕ → ChannelRecord
+record_at rs k = slice_index_or rs k unread
+
+-- the hold's row after a latch that makes `below` the row under it
+abbrev pub bridged : ℕ → List ChannelRecord → Readings → Readings
+bridged bridges rs below k = cond (nat_lt k 16) (after bridges (record_at rs k) (below k)).last None
+
+-- what a hold reads: nothing before its first latch; then what its records show, and where they show nothing, what is read below
+abbrev pub hold_row : Bool → List ChannelRecord → Readings → Readings
+hold_row latched rs below k = cond latched (option_or (cond (nat_lt k 16) (record_at rs k).last None) (below k)) None
+
+-- the fault of a dark read: the hold's own before its first latch, then the one from below
+abbrev pub hold_dark : Bool → Fault → ℕ → UpperFault
+hold_dark latched below k = cond latched (from_below below) (its_own layer.Hold (Dark k))

@@ -1,0 +1,6 @@
+pub mod Short
+pub mod Rows
+pub mod Panels
+pub mod Holds
+pub mod Moves
+pub mod Watching

@@ -1,0 +1,143 @@
+// The hold: stands over any sampler, and bridges the latches at which a channel below has nothing.
+ghost use Rattle.std.specs.Prelude.{◌≡◌, ◌<◌, ℕ, true, false, is_ok, unwrap_or, ok_or, refl};
+ghost use Rattle.sampling.specs.Holds.{unread, after, record_at, hold_row, hold_dark};
+ghost use Rattle.faults.specs.Faults.{from_below};
+ghost use Rattle.std.specs.Borrow.{Lends, sem};
+ghost use Rattle.sampling.specs.contracts.hold.Hold.{the_row};
+ghost use Rattle.sampling.specs.Moves.{Moved, Kept, present_row, next_row, refused_latch, with_below};
+ghost use Rattle.sampling.specs.Short.{past_hold, dark_hold};
+ghost use Rattle.sampling.specs.Rows.{latched};
+
+use crate::channel::ChannelRecord;
+use crate::row::CHANNELS;
+use crate::sampler::Sampler;
+use faults::cause::Cause;
+use faults::fault::{Fault, Layer};
+use faults::upper::UpperFault;
+use values::value::Value;
+
+// A fault of a hold: its own, or one from below that it has handed on.
+pub type HoldFault = UpperFault;
+
+// A sampler over another: where the row below has nothing, it shows the channel's last value for some latches running.
+#[derive(Drop)]
+pub struct Hold<S> {
+    below: S,
+    // How many latches it bridges.
+    bridges: u8,
+    // Whether it has latched yet.
+    latched: bool,
+    channels: [ChannelRecord; 16],
+}
+
+impl<S: Sampler> Hold<S> {
+    // A hold that has not latched yet.
+    pub fn new(below: S, bridges: u8) -> Hold<S>
+        ensures below { result.below ≡ below }
+        ensures bridges { result.bridges ≡ bridges }
+        ensures latched { result.latched ≡ false }
+        ensures channels { (k : ℕ) → record_at result.channels k ≡ unread }
+    {
+        Hold {
+            below,
+            bridges,
+            latched: false,
+            channels: [ChannelRecord::new(); 16],
+        }
+    }
+
+    // The sampler below.
+    pub fn get_ref(&self) -> &S
+        ensures { result.now ≡ self.now.below }
+    {
+        &self.below
+    }
+
+    // The sampler below, for its host. A latch of it alone is seen where the hold shows nothing of its own.
+    pub fn get_mut(&mut self) -> &mut S
+        ensures* writes_back { sem 𝓛 (Lends (the_row S.row) S.row self.entry result (with_below self.old)) }
+        ensures value { result.now ≡ self.old.below }
+    {
+        &mut self.below
+    }
+
+    // The sampler below, once the hold is done with.
+    pub fn into_inner(self) -> S
+        ensures { result ≡ self.below }
+    {
+        let Hold { below, .. } = self;
+        below
+    }
+
+    // Reads all sixteen channels below, and keeps what they read.
+    fn take_row(&mut self)
+        ensures below { self.new.below ≡ self.old.below }
+        ensures bridges { self.new.bridges ≡ self.old.bridges }
+        ensures latched { self.new.latched ≡ self.old.latched }
+        ensures channels { (k : ℕ) → k < 16 → record_at self.new.channels k ≡ after self.old.bridges (record_at self.old.channels k) (S.present self.old.below k) }
+    {
+        for channel in 0..CHANNELS {
+            let reading = self.below.read(channel).ok();
+            let record = &mut self.channels[usize::from(channel)];
+            record.take(reading, self.bridges);
+        }
+    }
+
+    // Latches below, and then takes the row there.
+    fn step(&mut self) -> Result<(), HoldFault>
+        ensures answer { result ≡ latched (S.next self.old.below) (from_below (S.refusal self.old.below)) }
+        ensures below { S.present self.new.below ≡ unwrap_or (S.next self.old.below) (S.present self.old.below) }
+        ensures moved { is_ok result ≡ true → Moved S.present S.next S.moves self.old self.new }
+        ensures kept { is_ok result ≡ false → self.new ≡ self.old }
+    {
+        self.below.latch()?;
+        self.take_row();
+        self.latched = true;
+        Ok(())
+    }
+
+    // What a channel reads; at a dark one, the fault from below.
+    fn look(&self, channel: u8) -> Result<Value, HoldFault>
+        ensures { result ≡ ok_or (hold_row self.now.latched self.now.channels (S.present self.now.below) channel) (hold_dark self.now.latched (S.dark self.now.below channel) channel) }
+    {
+        if !self.latched {
+            return Err(HoldFault::new(Layer::Hold, Cause::Dark(channel)));
+        }
+        let record = self.channels.get(usize::from(channel));
+        match record.and_then(ChannelRecord::shown) {
+            Some(value) => Ok(value),
+            None => Ok(self.below.read(channel)?),
+        }
+    }
+}
+
+impl<S: Sampler> Sampler for Hold<S> {
+    ghost present = { present_row S.present S.next S.refusal };
+
+    ghost next = { next_row S.present S.next S.refusal };
+
+    ghost refusal = { refused_latch S.present S.next S.refusal };
+
+    ghost dark = { λ h k. (hold_dark h.latched (S.dark h.below k) k).fault };
+
+    ghost moves = { Moved S.present S.next S.moves };
+
+    ghost keeps = { Kept S.keeps };
+
+    ghost short = { λ h. past_hold h.latched h.channels (S.present h.below) (S.short h.below) };
+
+    ghost refuses = { λ h. S.refuses h.below };
+
+    ghost darkens = { λ h. dark_hold h.latched (S.dark h.below) (S.darkens h.below) };
+
+    ghost stays = { λ h. record { bridges = refl; latched = refl; channels = refl; below = S.stays h.below } };
+
+    fn latch(&mut self) -> Result<(), Fault> {
+        self.step()?;
+        Ok(())
+    }
+
+    fn read(&self, channel: u8) -> Result<Value, Fault> {
+        Ok(self.look(channel)?)
+    }
+}

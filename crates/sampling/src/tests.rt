@@ -1,0 +1,36 @@
+// A pile of holds over a panel, with the exact faults and the layers that they passed.
+use crate::hold::Hold;
+use crate::panel::Panel;
+use crate::sampler::Sampler;
+use faults::cause::Cause;
+use faults::fault::{Fault, Layer};
+use std::test::Fail;
+use values::value::Value;
+
+#[test]
+fn a_pile_over_a_panel(rt: HostRuntime) -> Result<(), Fail> {
+    let mut pile = Hold::new(Hold::new(Panel::new(), 2), 0);
+    let panel = pile.get_mut().get_mut();
+    assert!(rt; panel.put(7, Value::Int8(-1)).is_ok());
+    assert!(rt; panel.put(16, Value::Int8(-1)) == Err(Fault::new(Layer::Panel, Cause::Limit(16))));
+    assert!(rt; panel.clear(255) == Err(Fault::new(Layer::Panel, Cause::Limit(255))));
+    assert!(rt; pile.read(7) == Err(Fault::new(Layer::Hold, Cause::Dark(7))));
+    // The panel's next row outlasts the latch, so that the value is read again.
+    for _ in 0..4u8 {
+        assert!(rt; pile.latch().is_ok());
+        assert!(rt; pile.read(7) == Ok(Value::Int8(-1)));
+    }
+    assert!(rt; pile.get_mut().get_mut().clear(7).is_ok());
+    for _ in 0..2u8 {
+        assert!(rt; pile.latch().is_ok());
+        assert!(rt; pile.read(7) == Ok(Value::Int8(-1)));
+    }
+    assert!(rt; pile.latch().is_ok());
+    let dark = Fault {
+        cause: Cause::Dark(7),
+        layer: Layer::Panel,
+        passed: 2,
+    };
+    assert!(rt; pile.read(7) == Err(dark));
+    Ok(())
+}
