@@ -1,0 +1,4 @@
+pub mod Turns
+pub mod Sound
+pub mod Accepted
+pub mod Left

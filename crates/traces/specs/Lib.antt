@@ -1,0 +1,5 @@
+pub mod Reading
+pub mod Written
+pub mod Rows
+pub mod Traces
+pub mod Opening
