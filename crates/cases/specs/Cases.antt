@@ -1,5 +1,5 @@
--- Worked cases of the check: small tables with their leads, rings and answers. Assumes nothing.
-use Rattle.std.specs.Prelude.{◌≡◌, ℕ, zero, suc, ◌≤◌, List, [], ◌∷◌, length, pos, Ok, Err, Result}
+-- The worked cases: what the check answers of small tables, what a hold shows, and operators at the ends of ranges. Assumes nothing.
+use Rattle.std.specs.Prelude.{◌≡◌, ℕ, zero, suc, ◌≤◌, List, [], ◌∷◌, length, pos, negsuc, Some, None, Ok, Err, Result}
 use Rattle.faults.specs.declared.cause.Cause.{Cause}
 use Rattle.faults.specs.declared.cause.Cause.TheVariants.{ClosedWalk, ChannelWalk}
 use Rattle.faults.specs.declared.fault.Fault.{Fault}
@@ -7,6 +7,7 @@ use Rattle.schedule.specs.declared.plan.Counts.{Counts}
 use Rattle.schedule.specs.Graphs.{stream, graph}
 use Rattle.schedule.specs.Plans.{lead_by}
 use Rattle.syntax.specs.Entries.{Entry}
+use Rattle.values.specs.declared.value.Value.TheVariants as value
 use Rattle.walks.specs.declared.edge.SheetEntry.{SheetEntry}
 use Rattle.walks.specs.Walks.{Lead, Ring}
 use Rattle.tables.specs.Rejecting.{Rejection}
@@ -14,7 +15,7 @@ use Rattle.faults.specs.declared.stop.Stop.TheVariants.{Refused, Memory}
 use Rattle.tables.specs.declared.table.Table.{Table}
 use Rattle.tables.specs.Reading.{checked}
 use Rattle.tables.specs.Checking.{Answers}
-use Rattle.cases.specs.declared.WalkCases.{WalkCases}
+use Rattle.cases.specs.declared.WorkedCases.{WorkedCases}
 
 -- whatever the check answers of the bytes, with a sheet that is long enough and where memory does not fail, is P
 abbrev pub Checks : List ℕ → (Result Counts Rejection → Type 0) → Type 0
@@ -104,9 +105,14 @@ pub record Verdict (bytes : List ℕ) (v : Result ℕ Cause) : Type 0 where
   pub is : Says answer v
 
 -- the answers of the worked cases
-pub record AsWorked (w : WalkCases) : Type 0 where
+pub record AsWorked (w : WorkedCases) : Type 0 where
   pub two : w.two ≡ Ok 4
   pub three : w.three ≡ Ok 4
   pub four : w.four ≡ Err (ChannelWalk 3)
   pub one : w.one ≡ Err (ClosedWalk 1)
   pub none : w.none ≡ Ok 2
+  pub bridged : w.bridged ≡ Some (value.Word8 5) ∷ Some (value.Word8 5) ∷ Some (value.Word8 5) ∷ None ∷ []
+  pub sum : w.edges.sum ≡ value.Word8 0
+  pub minimum : w.edges.minimum ≡ value.Int8 (negsuc 127)
+  pub fraction : w.edges.fraction ≡ value.Int8 (negsuc 2)
+  pub rest : w.edges.rest ≡ value.Int8 (negsuc 0)

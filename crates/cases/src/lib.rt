@@ -1,14 +1,19 @@
-// Worked cases of walks, leads and rings: small tables, what the check answers of them, and proofs of it.
+// Worked cases: small tables and what the check answers of them, a hold over a few rows, and operators at the ends of ranges; with proofs.
 #![tactic(auto)]
 
 ghost use Rattle.std.specs.Prelude.{◌≡◌, IfOk};
 ghost use Rattle.cases.specs.Cases.{three_streams, one_stream, TwoStreams, ThreeAhead, FourAhead, OneAhead, NoneAhead, Says, Verdict, AsWorked};
 
+mod bridging;
+
+use crate::bridging::bridge_five;
 use faults::cause::Cause;
+use operators::edges::{EdgeCases, edge_cases};
 use schedule::plan::Counts;
 use std::alloc::{AllocError, Global};
 use tables::line::ask;
 use tables::rejection::Rejection;
+use values::value::Value;
 
 // Stream 0 is m3 = [0, 1, 2] ++ m2, and stream 1 is m2 = drop 1 m3, in Word8.
 const TWO_STREAMS: [u8; 20] = [
@@ -57,23 +62,27 @@ fn judge(alloc: Global, bytes: &[u8]) -> Result<Result<usize, Cause>, AllocError
     verdict(ask(alloc, bytes)?.answer)
 }
 
-// What the check answers of the worked tables.
+// What the worked cases come to.
 #[derive(Clone, Copy)]
-pub struct WalkCases {
-    // The two streams that read each other.
+pub struct WorkedCases {
+    // What the check answers of the two streams that read each other.
     pub two: Result<usize, Cause>,
-    // The three streams, with drop 3.
+    // Of the three streams, with drop 3.
     pub three: Result<usize, Cause>,
-    // The three streams, with drop 4.
+    // Of the three streams, with drop 4.
     pub four: Result<usize, Cause>,
-    // The stream that reads itself, with drop 1.
+    // Of the stream that reads itself, with drop 1.
     pub one: Result<usize, Cause>,
-    // The stream that reads itself, with drop 0.
+    // Of the stream that reads itself, with drop 0.
     pub none: Result<usize, Cause>,
+    // What a hold that bridges two latches shows of 5 and three latches with nothing.
+    pub bridged: [Option<Value>; 4],
+    // What operators make of operands at the ends of their ranges.
+    pub edges: EdgeCases,
 }
 
-// Checks each of the worked tables.
-fn check_all(alloc: Global) -> Result<WalkCases, AllocError>
+// Checks each of the worked tables, and works out the other cases.
+fn work_out(alloc: Global) -> Result<WorkedCases, AllocError>
     ensures { IfOk result AsWorked }
 {
     let two = judge(alloc, &TWO_STREAMS)?;
@@ -81,17 +90,19 @@ fn check_all(alloc: Global) -> Result<WalkCases, AllocError>
     let four = judge(alloc, &three_streams(4))?;
     let one = judge(alloc, &one_stream(1))?;
     let none = judge(alloc, &one_stream(0))?;
-    Ok(WalkCases {
+    Ok(WorkedCases {
         two,
         three,
         four,
         one,
         none,
+        bridged: bridge_five(),
+        edges: edge_cases(),
     })
 }
 
-// Checks the worked tables; and says what any check of them answers, with the leads and rings of the first.
-pub fn walk_cases(alloc: Global) -> Result<WalkCases, AllocError>
+// Works out the worked cases; and says what any check of their tables answers, with the leads and rings of the first.
+pub fn worked_cases(alloc: Global) -> Result<WorkedCases, AllocError>
     ensures answers { IfOk result AsWorked }
     ensures two { TwoStreams }
     ensures three { ThreeAhead }
@@ -99,7 +110,7 @@ pub fn walk_cases(alloc: Global) -> Result<WalkCases, AllocError>
     ensures one { OneAhead }
     ensures none { NoneAhead }
 {
-    check_all(alloc)
+    work_out(alloc)
 }
 
 #[cfg(test)]

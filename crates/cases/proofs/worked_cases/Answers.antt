@@ -2,7 +2,7 @@
 use Rattle.cases.proofs.One.{one_ahead, none_ahead}
 use Rattle.cases.proofs.Two.{both_streams}
 use Rattle.cases.proofs.Three.{three_ahead, four_ahead}
-use Rattle.cases.proofs.walk_cases.Goals as goal
+use Rattle.cases.proofs.worked_cases.Goals as goal
 
 pub returns : goal.returns
-returns c = record { answers = c.check_all.ensures; two = both_streams; three = three_ahead; four = four_ahead; one = one_ahead; none = none_ahead }
+returns c = record { answers = c.work_out.ensures; two = both_streams; three = three_ahead; four = four_ahead; one = one_ahead; none = none_ahead }

@@ -5,7 +5,7 @@ use Rattle.cases.proofs.Judging.{slots_are, cause_is}
 use Rattle.cases.proofs.One.{one_ahead, none_ahead}
 use Rattle.cases.proofs.Two.{both_streams}
 use Rattle.cases.proofs.Three.{three_ahead, four_ahead}
-use Rattle.cases.proofs.check_all.Goals as goal
+use Rattle.cases.proofs.work_out.Goals as goal
 
 pub returns : goal.returns
 returns c = record {
@@ -14,4 +14,9 @@ returns c = record {
   four = cause_is (three_streams 4) c.in_ok-four.four (subst (λ (l : List ℕ). Verdict l c.in_ok-four.four) c.three_streams-2.ensures c.in_ok-four.ensures) (ChannelWalk 3) four_ahead;
   one = cause_is (one_stream 1) c.in_ok-one.one (subst (λ (l : List ℕ). Verdict l c.in_ok-one.one) c.one_stream.ensures c.in_ok-one.ensures) (ClosedWalk 1) one_ahead;
   none = slots_are (one_stream 0) c.in_ok-none.none (subst (λ (l : List ℕ). Verdict l c.in_ok-none.none) c.one_stream-2.ensures c.in_ok-none.ensures) 2 none_ahead;
+  bridged = c.bridge_five.ensures;
+  sum = c.edge_cases.ensures.sum;
+  minimum = c.edge_cases.ensures.minimum;
+  fraction = c.edge_cases.ensures.fraction;
+  rest = c.edge_cases.ensures.rest;
 }
