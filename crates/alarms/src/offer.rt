@@ -1,0 +1,26 @@
+// Alarms offered one after another.
+ghost use Rattle.alarms.specs.Offers.{Ends, QuotasTake};
+
+use crate::alarm::Alarm;
+use crate::sink::Sink;
+use faults::fault::Fault;
+
+// How many of the alarms offered were taken, and the fault by which the next was refused.
+#[derive(Clone, Copy, Debug, PartialEq, Eq)]
+pub struct Untaken {
+    pub taken: usize,
+    pub fault: Fault,
+}
+
+// Offers alarms in order, until one is refused.
+pub fn offer<K: Sink>(sink: &mut K, alarms: &[Alarm]) -> Result<(), Untaken>
+    ensures run { Ends K.view K.adds K.moves K.full sink.old alarms.now sink.new result }
+    ensures quotas { QuotasTake K.view K.adds K.moves }
+{
+    for (taken, alarm) in alarms.iter().enumerate() {
+        if let Err(fault) = sink.take(*alarm) {
+            return Err(Untaken { taken, fault });
+        }
+    }
+    Ok(())
+}
