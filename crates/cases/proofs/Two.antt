@@ -12,7 +12,7 @@ use Rattle.syntax.specs.Entries as entry
 use Rattle.syntax.specs.Heads.{head}
 use Rattle.syntax.specs.Parsing.{parse}
 use Rattle.syntax.specs.Reading.{read_table, entries, entry_from, many}
-use Rattle.syntax.specs.Written.{HasType}
+use Rattle.values.specs.Values.{HasType}
 use Rattle.typing.specs.Typing.{shape}
 use Rattle.references.specs.declared.reference.Id.{Id}
 use Rattle.references.specs.declared.reference.Reference.{Reference}

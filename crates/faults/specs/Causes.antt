@@ -3,8 +3,12 @@ use Rattle.std.specs.Prelude.{ℕ}
 use Rattle.faults.specs.declared.cause.Cause.{Cause}
 use Rattle.faults.specs.declared.cause.Cause.TheVariants.{Version, Ended, Malformed, Limit, Undeclared, Mistyped, Divisor, ClosedWalk, ChannelWalk, ShortSheet, Slots, OtherTable, TicksSpent, NoRow, Dark, OtherType, SinkFull, AlarmsDue, NoneDue, NoStream, NoValueYet}
 
--- a refusal's number and its place
-abbrev pub refusal : Cause → ℕ × ℕ
+-- a refusal as it is told: its number and its place
+abbrev pub Refusal : Type 0
+Refusal = ℕ × ℕ
+
+-- a cause's number and its place
+abbrev pub refusal : Cause → Refusal
 refusal Version = (1, 0)
 refusal (Ended start) = (2, start)
 refusal (Malformed byte) = (3, byte)

@@ -9,6 +9,7 @@ use Rattle.faults.specs.declared.cause.Cause.TheVariants.{Malformed, Limit}
 use Rattle.values.specs.declared.value.Value.{Value}
 use Rattle.values.specs.Types.{code}
 use Rattle.values.specs.Bytes.{encoded}
+use Rattle.values.specs.Values.{HasType}
 use Rattle.syntax.specs.declared.record.Kind.{Kind}
 use Rattle.syntax.specs.Answers.{Found, then}
 use Rattle.syntax.specs.Parts.{named, value_from}
@@ -16,7 +17,7 @@ use Rattle.syntax.specs.Parsing.{parse}
 use Rattle.syntax.specs.Entries.{Entry, kind_of, kind_code, kind_coded, limit, count}
 use Rattle.syntax.specs.Entries as entry
 use Rattle.syntax.specs.Reading.{many, at_most, body, filled, framed, frame, entry_from, entries, read_table}
-use Rattle.syntax.specs.Written.{written, Bounded, HasType, placed, joined, payload, inner, write_entry, write, Small, each, placed_payload, placed_entry, AcceptsWritten}
+use Rattle.syntax.specs.Written.{written, Bounded, placed, joined, payload, inner, write_entry, write, Small, each, placed_payload, placed_entry, AcceptsWritten}
 use Rattle.syntax.proofs.SameKind.{kind_back}
 use Rattle.syntax.proofs.Stand.{Stands, split, first, front_long, narrowed}
 use Rattle.syntax.proofs.Complete.{complete}

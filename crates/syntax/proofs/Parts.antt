@@ -8,11 +8,11 @@ use Rattle.values.specs.declared.types.«Type».{«Type» as Ty}
 use Rattle.values.specs.declared.types.«Type».TheVariants as type
 use Rattle.values.specs.declared.value.Value.{Value}
 use Rattle.values.specs.Types.{code, types, type_coded, size}
-use Rattle.values.specs.Values.{type_of, Proper}
+use Rattle.values.specs.Values.{type_of, Proper, HasType}
 use Rattle.values.specs.Bytes.{encoded, decoded}
 use Rattle.values.proofs.Encoding.{decodes, length_encoded}
 use Rattle.syntax.specs.Parts.{named, type_from, value_from, ends, span}
-use Rattle.syntax.specs.Written.{sized, joined, HasType}
+use Rattle.syntax.specs.Written.{sized, joined}
 use Rattle.syntax.proofs.Stand.{Stands, byte, join, first, chunk, as_byte, Good, Ends, good_if, good_named, coded}
 
 pub type_back : (t : Ty) → type_coded (code t) ≡ Some t

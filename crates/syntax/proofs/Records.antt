@@ -5,6 +5,7 @@ use Rattle.std.proofs.ByRecursion.{All-take}
 use Rattle.std.proofs.lemmas.Bool.{ltb-true, leb-true, eqb-true}
 use Rattle.values.specs.Types.{code}
 use Rattle.values.specs.Bytes.{encoded}
+use Rattle.values.specs.Values.{HasType}
 use Rattle.syntax.specs.declared.record.Kind.{Kind}
 use Rattle.syntax.specs.declared.record.Kind.TheVariants.{Channel, Stream, Rule}
 use Rattle.syntax.specs.Answers.{Found}
@@ -12,7 +13,7 @@ use Rattle.syntax.specs.Parts.{type_from, value_from, span}
 use Rattle.syntax.specs.Parsing.{parse}
 use Rattle.syntax.specs.Entries.{Entry, kind_of, kind_code, kind_coded, limit, count}
 use Rattle.syntax.specs.Reading.{many, at_most, body, filled, frame, entry_from}
-use Rattle.syntax.specs.Written.{written, Bounded, HasType, joined, payload, inner, write_entry, Small}
+use Rattle.syntax.specs.Written.{written, Bounded, joined, payload, inner, write_entry, Small}
 use Rattle.syntax.proofs.Stand.{Stands, nothing, byte, join, as_byte, front_long, widened, Good, good_then, good_if, good_weaker, good_named, coded, good_after}
 use Rattle.syntax.proofs.Sound.{EAt, sound}
 use Rattle.syntax.proofs.Parts.{TAt, SAt, sound_type, sound_value, sound_span, sized_stands}

@@ -1,13 +1,13 @@
 -- Nothing to refuse, or the first refusal of several parts. Assumes nothing.
 use Rattle.std.specs.Prelude.{List, [], ◌∷◌, Ok, Err, Result}
-use Rattle.faults.specs.declared.cause.Cause.{Cause}
+use Rattle.faults.specs.Causes.{Refusal}
 
 -- nothing to refuse, or a refusal
 abbrev pub Passed : Type 0
-Passed = Result (Unit {0}) Cause
+Passed = Result (Unit {0}) Refusal
 
 -- what comes of a result
-abbrev pub then : {X Y : Type 0} → Result X Cause → (X → Result Y Cause) → Result Y Cause
+abbrev pub then : {X Y E : Type 0} → Result X E → (X → Result Y E) → Result Y E
 then (Ok x) f = f x
 then (Err c) f = Err c
 

@@ -1,10 +1,9 @@
 -- How a table is written, the limits that it keeps, and the law that reading accepts exactly what is written so. Assumes nothing.
 use Rattle.std.specs.Prelude.{◌≡◌, ℕ, zero, suc, ◌+◌, ◌/◌, ◌%◌, ◌≤◌, List, [], ◌∷◌, ◌++◌, length, Ok}
 use Rattle.std.specs.List.{AllByRecursion}
-use Rattle.values.specs.declared.types.«Type».{«Type» as Ty}
 use Rattle.values.specs.declared.value.Value.{Value}
 use Rattle.values.specs.Types.{code}
-use Rattle.values.specs.Values.{type_of, Proper}
+use Rattle.values.specs.Values.{type_of, Proper, HasType}
 use Rattle.values.specs.Bytes.{encoded}
 use Rattle.syntax.specs.declared.record.Kind.{Kind}
 use Rattle.syntax.specs.Codes.{unary_code, binary_code}
@@ -60,10 +59,6 @@ Bounded (suc d) (unary at o e) = Bounded d e
 Bounded (suc d) (cast at t e) = Bounded d e
 Bounded (suc d) (binary at o a b) = Bounded d a × Bounded d b
 Bounded (suc d) (choose at a b c) = Bounded d a × Bounded d b × Bounded d c
-
--- a value of a type
-abbrev pub HasType : Ty → Value → Type 0
-HasType t v = (type_of v ≡ t) × Proper v
 
 -- the limits of a record
 abbrev pub Small : Entry → Type 0

@@ -35,6 +35,10 @@ num (Int64 z) = z
 abbrev pub Proper : Value → Type 0
 Proper v = Within (type_of v) (num v)
 
+-- a value of a type
+abbrev pub HasType : Ty → Value → Type 0
+HasType t v = (type_of v ≡ t) × Proper v
+
 -- the number below 2 ^ w that differs from z by a multiple of 2 ^ w
 abbrev pub modulo : ℕ → ℤ → ℕ
 modulo w z = unsigned_abs (int_rem_euclid z (pos (2 ^ w)))
