@@ -1,5 +1,5 @@
 -- The number and the place of every refusal. Assumes nothing.
-use Rattle.std.specs.Prelude.{ℕ}
+use Rattle.std.specs.Prelude.{ℕ, Ok, Err, Result}
 use Rattle.faults.specs.declared.cause.Cause.{Cause}
 use Rattle.faults.specs.declared.cause.Cause.TheVariants.{Version, Ended, Malformed, Limit, Undeclared, Mistyped, Divisor, ClosedWalk, ChannelWalk, ShortSheet, Slots, OtherTable, TicksSpent, NoRow, Dark, OtherType, SinkFull, AlarmsDue, NoneDue, NoStream, NoValueYet}
 
@@ -36,3 +36,8 @@ number_of c = (refusal c).0
 
 abbrev pub place_of : Cause → ℕ
 place_of c = (refusal c).1
+
+-- a result with its cause by number and place
+abbrev pub by_number : {X : Type 0} → Result X Cause → Result X Refusal
+by_number (Ok x) = Ok x
+by_number (Err c) = Err (refusal c)
