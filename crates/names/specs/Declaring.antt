@@ -1,6 +1,7 @@
 -- The first name that is not declared. Assumes nothing.
 use Rattle.std.specs.Prelude.{ℕ, Bool, cond, List, Ok, Err, nat_lt}
 use Rattle.faults.specs.declared.cause.Cause.TheVariants.{Undeclared}
+use Rattle.faults.specs.Causes.{refusal}
 use Rattle.syntax.specs.declared.record.Kind.TheVariants.{Channel, Stream}
 use Rattle.syntax.specs.Passing.{Passed, every}
 use Rattle.syntax.specs.Entries.{Entry, count}
@@ -15,7 +16,7 @@ declares channels streams (name.Stream i d) = nat_lt i streams
 
 -- a name passes where it is declared
 abbrev pub named : ℕ → ℕ → Use → Passed
-named channels streams u = cond (declares channels streams u.name) (Ok tt) (Err (Undeclared u.place))
+named channels streams u = cond (declares channels streams u.name) (Ok tt) (Err (refusal (Undeclared u.place)))
 
 -- the first of the names that is not declared
 abbrev pub undeclared : ℕ → ℕ → List Use → Passed

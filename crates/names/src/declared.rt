@@ -1,5 +1,6 @@
 // Whether each channel and stream that a table names is declared.
 ghost use Rattle.std.specs.Prelude.{◌≡◌, map};
+ghost use Rattle.faults.specs.Causes.{by_number};
 ghost use Rattle.syntax.specs.Entries.{entry_of};
 ghost use Rattle.names.specs.Declaring.{undeclared, undeclared_in};
 
@@ -20,7 +21,7 @@ impl Visitor for Check {
     type Error = Cause;
 
     // the first that is not declared is refused
-    ghost visits = { λ s us r t. (s ≡ t) × (r ≡ undeclared s.declared.channels s.declared.streams us) };
+    ghost visits = { λ s us r t. (s ≡ t) × (by_number r ≡ undeclared s.declared.channels s.declared.streams us) };
 
     ghost none = { Prim.search rules };
 
@@ -39,7 +40,7 @@ impl Visitor for Check {
 
 // Refuses the first name of a table, in reading order, that is not declared.
 pub fn check_names(records: &[Record]) -> Result<(), Cause>
-    ensures { result ≡ undeclared_in (map entry_of records.now) }
+    ensures { by_number result ≡ undeclared_in (map entry_of records.now) }
 {
     let declared = Counts::of(records);
     records

@@ -4,6 +4,7 @@ use Rattle.faults.specs.declared.cause.Cause.TheVariants.{Mistyped}
 use Rattle.values.specs.declared.types.«Type».{«Type» as Ty}
 use Rattle.values.specs.declared.types.«Type».TheVariants.{Bool}
 use Rattle.faults.specs.declared.cause.Cause.{Cause}
+use Rattle.faults.specs.Causes.{refusal}
 use Rattle.faults.specs.declared.stop.Stop.{Stop}
 use Rattle.faults.specs.declared.stop.Stop.TheVariants.{Refused, Memory}
 use Rattle.syntax.specs.Passing.{Passed, then, every}
@@ -20,7 +21,7 @@ fits (Some want) t = same want t
 
 -- a whole expression: what is in it comes first, then its own type, and its own divisor last
 abbrev pub judged : List Ty → List Ty → Option Ty → Exp → Passed
-judged cs ss want e = then (shape cs ss 12 e) (λ t. cond (fits want t) (then (settled e t) (λ _. Ok tt)) (Err (Mistyped (place e))))
+judged cs ss want e = then (shape cs ss 12 e) (λ t. cond (fits want t) (then (settled e t) (λ _. Ok tt)) (Err (refusal (Mistyped (place e)))))
 
 -- a body has its stream's type; a guard is a Bool, and its arguments, which follow it, have any type
 abbrev pub entry_judged : List Ty → List Ty → Entry → Passed
@@ -35,5 +36,5 @@ types_in rs = every (entry_judged (channel_types rs) (stream_types rs)) rs
 -- the answer is that refusal, or that there is none; memory fails only where there is a record
 abbrev pub Typed : Result (Unit {0}) (Stop Cause) → List Entry → Type 0
 Typed (Ok u) rs = types_in rs ≡ Ok tt
-Typed (Err (Refused x)) rs = types_in rs ≡ Err x
+Typed (Err (Refused x)) rs = types_in rs ≡ Err (refusal x)
 Typed (Err Memory) rs = 0 < length rs

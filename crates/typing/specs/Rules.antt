@@ -1,7 +1,7 @@
 -- Which types an operator takes, which it gives, and which divisors there are. Assumes nothing.
 use Rattle.std.specs.Prelude.{ℕ, Bool as Truth, true, false, cond, not, ◌&&◌, ◌||◌, pos, Some, None, Ok, Err, Option, Result, ◌==◌}
-use Rattle.faults.specs.declared.cause.Cause.{Cause}
 use Rattle.faults.specs.declared.cause.Cause.TheVariants.{Divisor}
+use Rattle.faults.specs.Causes.{Refusal, refusal}
 use Rattle.values.specs.declared.types.«Type».{«Type» as Ty}
 use Rattle.values.specs.declared.types.«Type».TheVariants.{Bool}
 use Rattle.values.specs.Types.{code}
@@ -87,5 +87,5 @@ divided (binary at o a b) = not (divides o) || divisor b
 divided (choose at a b c) = true
 
 -- an expression's type, once its own divisor is looked at
-abbrev pub settled : Exp → Ty → Result Ty Cause
-settled e t = cond (divided e) (Ok t) (Err (Divisor (place e)))
+abbrev pub settled : Exp → Ty → Result Ty Refusal
+settled e t = cond (divided e) (Ok t) (Err (refusal (Divisor (place e))))

@@ -1,5 +1,6 @@
 // The type of an expression.
 ghost use Rattle.std.specs.Prelude.{◌≡◌};
+ghost use Rattle.faults.specs.Causes.{by_number};
 ghost use Rattle.syntax.specs.Trees.{exp};
 ghost use Rattle.typing.specs.Typing.{fitted, operand, shape};
 
@@ -11,7 +12,7 @@ use values::types::Type;
 
 // The type that fits, or that the operator at a place takes none of its operands' types.
 fn fitted(at: u16, ty: Option<Type>) -> Result<Type, Cause>
-    ensures { result ≡ fitted at ty }
+    ensures { by_number result ≡ fitted at ty }
 {
     ty.ok_or(Cause::Mistyped(usize::from(at)))
 }
@@ -20,7 +21,7 @@ impl Scope {
     // The type of an operand, at most `depth` deep, once its own divisor is looked at.
     #[cycle(shape)]
     fn operand(&self, e: &Expr, depth: u8) -> Result<Type, Cause>
-        ensures { result ≡ operand (shape self.now.channels.items self.now.streams.items depth) (exp e.now) }
+        ensures { by_number result ≡ operand (shape self.now.channels.items self.now.streams.items depth) (exp e.now) }
     {
         settled(e, self.shape(e, depth)?)
     }
@@ -29,7 +30,7 @@ impl Scope {
     #[cycle(shape)]
     #[tactic(auto, using(crate::proofs::Shapes::shaped), unfolding(crate::specs::Typing::shape))]
     pub(crate) fn shape(&self, e: &Expr, depth: u8) -> Result<Type, Cause>
-        ensures { result ≡ shape self.now.channels.items self.now.streams.items depth (exp e.now) }
+        ensures { by_number result ≡ shape self.now.channels.items self.now.streams.items depth (exp e.now) }
     {
         if depth == 0 {
             return Err(Cause::Limit(place(e)));

@@ -1,5 +1,6 @@
 // Which types an operator takes, and which divisors.
 ghost use Rattle.std.specs.Prelude.{◌≡◌, ◌&&◌};
+ghost use Rattle.faults.specs.Causes.{by_number};
 ghost use Rattle.values.specs.declared.types.«Type».TheVariants as type;
 ghost use Rattle.syntax.specs.Trees.{exp};
 ghost use Rattle.typing.specs.Rules.{same, where_fit, integer, unary_type, binary_type, divides, divisor, divided, place, settled};
@@ -88,7 +89,7 @@ fn divided(e: &Expr) -> bool
 
 // An expression's type, once its own divisor is looked at.
 pub(crate) fn settled(e: &Expr, ty: Type) -> Result<Type, Cause>
-    ensures { result ≡ settled (exp e.now) ty }
+    ensures { by_number result ≡ settled (exp e.now) ty }
 {
     if divided(e) {
         Ok(ty)

@@ -1,5 +1,6 @@
 // Whether a table's bodies, guards and arguments have the types that they should.
 ghost use Rattle.std.specs.Prelude.{◌≡◌, map};
+ghost use Rattle.faults.specs.Causes.{by_number};
 ghost use Rattle.syntax.specs.Entries.{entry_of};
 ghost use Rattle.syntax.specs.Trees.{exp};
 ghost use Rattle.typing.specs.Judging.{fits, judged, entry_judged, Typed};
@@ -23,7 +24,7 @@ fn fits(want: Option<Type>, ty: Type) -> bool
 impl Scope {
     // Judges a whole expression: what is in it, the type that is wanted, and then its own divisor.
     fn judge(&self, e: &Expr, want: Option<Type>) -> Result<(), Cause>
-        ensures { result ≡ judged self.now.channels.items self.now.streams.items want (exp e.now) }
+        ensures { by_number result ≡ judged self.now.channels.items self.now.streams.items want (exp e.now) }
     {
         let ty = self.shape(e, DEPTH)?;
         if !fits(want, ty) {
@@ -35,7 +36,7 @@ impl Scope {
 
     // Judges a record: a body has its stream's type, a guard is a Bool, and arguments may have any type.
     fn judge_record(&self, r: &Record) -> Result<(), Cause>
-        ensures { result ≡ entry_judged self.now.channels.items self.now.streams.items (entry_of r.now) }
+        ensures { by_number result ≡ entry_judged self.now.channels.items self.now.streams.items (entry_of r.now) }
     {
         match r {
             Record::Channel(_) => Ok(()),
