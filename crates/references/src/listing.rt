@@ -1,5 +1,5 @@
 // The references of a table, in reading order.
-ghost use Rattle.std.specs.Prelude.{◌≡◌, [], ◌++◌, map, IfOk, OnOk};
+ghost use Rattle.std.specs.Prelude.{◌≡◌, ◌<◌, [], ◌++◌, map, length, MatchResult};
 ghost use Rattle.syntax.specs.Entries.{entry_of};
 ghost use Rattle.references.specs.References.{refer, references};
 
@@ -21,16 +21,17 @@ impl<'a> Visitor for Listing<'a> {
 
     type Error = AllocError;
 
-    // a reference more for each name, in the same list
-    ghost visits = { λ s us r t. OnOk r
-        ((t.reader ≡ s.reader) × (t.found.ghost_name ≡ s.found.ghost_name)
-        × (t.found.now.items ≡ s.found.now.items ++ map (refer s.reader) us)) };
+    // a reference more for each name, in the same list; memory fails only where there is a name
+    ghost visits = { λ s us r t. MatchResult r
+        (λ _. (t.reader ≡ s.reader) × (t.found.ghost_name ≡ s.found.ghost_name)
+        × (t.found.now.items ≡ s.found.now.items ++ map (refer s.reader) us))
+        (λ _. 0 < length us) };
 
     ghost none = { Prim.search rules };
 
     ghost more = { Prim.search (rules, common_steps) };
 
-    ghost stops = { Prim.search rules };
+    ghost stops = { Prim.search (rules, common_steps) };
 
     fn visit(&mut self, _place: usize, name: Name) -> Result<(), AllocError> {
         let (kind, number, drop) = match name {
@@ -49,7 +50,8 @@ impl<'a> Visitor for Listing<'a> {
 
 // Every channel and stream that is named in a body, guard or argument, with the record that names it.
 pub fn list_references(alloc: Global, records: &[Record]) -> Result<Vec<Reference>, AllocError>
-    ensures { IfOk result (λ v. v.items ≡ references [] (map entry_of records.now)) }
+    ensures { let all = references [] (map entry_of records.now) in
+        MatchResult result (λ v. v.items ≡ all) (λ _. 0 < length all) }
 {
     let mut found = Vec::new(alloc);
     // With its place, since a record's number is the count of its kind before it.
