@@ -1,5 +1,5 @@
 -- The first type or divisor of a table that does not fit. Assumes nothing.
-use Rattle.std.specs.Prelude.{◌≡◌, ◌<◌, Bool as Truth, true, cond, List, length, Some, None, Ok, Err, Option, Result}
+use Rattle.std.specs.Prelude.{◌≡◌, ◌<◌, ◌+◌, Bool as Truth, true, cond, List, Some, None, Ok, Err, Option, Result}
 use Rattle.faults.specs.declared.cause.Cause.TheVariants.{Mistyped}
 use Rattle.values.specs.declared.types.«Type».{«Type» as Ty}
 use Rattle.values.specs.declared.types.«Type».TheVariants.{Bool}
@@ -9,7 +9,8 @@ use Rattle.faults.specs.declared.stop.Stop.{Stop}
 use Rattle.faults.specs.declared.stop.Stop.TheVariants.{Refused, Memory}
 use Rattle.syntax.specs.Passing.{Passed, then, every}
 use Rattle.syntax.specs.Trees.{Exp}
-use Rattle.syntax.specs.Entries.{Entry, channel, stream, rule}
+use Rattle.syntax.specs.declared.record.Kind.TheVariants.{Channel, Stream}
+use Rattle.syntax.specs.Entries.{Entry, channel, stream, rule, count}
 use Rattle.typing.specs.Scopes.{channel_types, stream_types}
 use Rattle.typing.specs.Rules.{same, place, settled}
 use Rattle.typing.specs.Typing.{shape}
@@ -33,8 +34,8 @@ entry_judged cs ss (rule g es) = then (judged cs ss (Some Bool) g) (λ _. every 
 abbrev pub types_in : List Entry → Passed
 types_in rs = every (entry_judged (channel_types rs) (stream_types rs)) rs
 
--- the answer is that refusal, or that there is none; memory fails only where there is a record
+-- the answer is that refusal, or that there is none; memory fails only where there is a channel or a stream
 abbrev pub Typed : Result (Unit {0}) (Stop Cause) → List Entry → Type 0
 Typed (Ok u) rs = types_in rs ≡ Ok tt
 Typed (Err (Refused x)) rs = types_in rs ≡ Err (refusal x)
-Typed (Err Memory) rs = 0 < length rs
+Typed (Err Memory) rs = 0 < count Channel rs + count Stream rs

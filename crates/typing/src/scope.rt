@@ -1,7 +1,8 @@
 // The types of a table's channels and streams.
-ghost use Rattle.std.specs.Prelude.{◌≡◌, ◌<◌, map, length, MatchResult, OnOk, slice_index_or};
+ghost use Rattle.std.specs.Prelude.{◌≡◌, ◌<◌, ◌+◌, [], ◌∷◌, map, MatchResult, slice_index_or};
 ghost use Rattle.values.specs.declared.types.«Type».TheVariants as type;
-ghost use Rattle.syntax.specs.Entries.{entry_of};
+ghost use Rattle.syntax.specs.declared.record.Kind.TheVariants.{Channel, Stream};
+ghost use Rattle.syntax.specs.Entries.{entry_of, count};
 ghost use Rattle.typing.specs.Scopes.{Adds, ScopeOf};
 
 use std::alloc::{AllocError, Global};
@@ -28,7 +29,8 @@ fn type_at(types: &[Type], number: u8) -> Type
 impl Scope {
     // Adds the type of a record that is a channel or a stream.
     fn add(&mut self, r: &Record) -> Result<(), AllocError>
-        ensures { OnOk result (Adds self.old (entry_of r.now) self.new) }
+        ensures { let e = entry_of r.now in
+            MatchResult result (λ _. Adds self.old e self.new) (λ _. 0 < count Channel (e ∷ []) + count Stream (e ∷ [])) }
     {
         match r {
             Record::Channel(ty) => self.channels.push(*ty)?,
@@ -40,7 +42,8 @@ impl Scope {
 
     // The scope of a table.
     pub(crate) fn new(alloc: Global, records: &[Record]) -> Result<Scope, AllocError>
-        ensures { MatchResult result (λ s. ScopeOf s (map entry_of records.now)) (λ _. 0 < length records.now) }
+        ensures { let rs = map entry_of records.now in
+            MatchResult result (λ s. ScopeOf s rs) (λ _. 0 < count Channel rs + count Stream rs) }
     {
         let mut scope = Scope {
             channels: Vec::new(alloc),
