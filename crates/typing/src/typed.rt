@@ -1,9 +1,10 @@
 // Whether a table's bodies, guards and arguments have the types that they should.
-ghost use Rattle.std.specs.Prelude.{◌≡◌, map};
+ghost use Rattle.std.specs.Prelude.{◌≡◌, Ok, map};
 ghost use Rattle.faults.specs.Causes.{by_number};
 ghost use Rattle.syntax.specs.Entries.{entry_of};
 ghost use Rattle.syntax.specs.Trees.{exp};
-ghost use Rattle.typing.specs.Judging.{fits, judged, entry_judged, Typed};
+ghost use Rattle.typing.specs.Judging.{fits, judged, entry_judged, types_in, Typed};
+ghost use Rattle.typing.specs.WellTyped.{AllTyped, AllDivideByConstants};
 
 use crate::rules::{place, settled};
 use crate::scope::Scope;
@@ -51,7 +52,11 @@ impl Scope {
 
 // Refuses the first type or divisor of a table that does not fit.
 pub fn check_types(alloc: Global, records: &[Record]) -> Result<(), Stop>
-    ensures { Typed result (map entry_of records.now) }
+    ensures answer { Typed result (map entry_of records.now) }
+    ensures typed { let rs = map entry_of records.now in
+        types_in rs ≡ Ok tt → AllTyped rs }
+    ensures divisors { let rs = map entry_of records.now in
+        types_in rs ≡ Ok tt → AllDivideByConstants rs }
 {
     let scope = Scope::new(alloc, records)?;
     records.iter().try_for_each(|r| scope.judge_record(r))?;
