@@ -21,7 +21,8 @@ impl Visitor for Check {
     type Error = Cause;
 
     // the first that is not declared is refused
-    ghost visits = { λ s us r t. (s ≡ t) × (by_number r ≡ undeclared s.declared.channels s.declared.streams us) };
+    ghost visits = { λ s us r t.
+        (s ≡ t) × (by_number r ≡ undeclared s.declared.channels s.declared.streams us) };
 
     ghost none = { Prim.search rules };
 
@@ -38,7 +39,11 @@ impl Visitor for Check {
     }
 }
 
-// Refuses the first name of a table, in reading order, that is not declared.
+/// Checks that every channel and stream that a table names is declared in it.
+///
+/// # Errors
+///
+/// The first name, in reading order, that is not declared, with the byte of its number.
 pub fn check_names(records: &[Record]) -> Result<(), Cause>
     ensures { by_number result ≡ undeclared_in (map entry_of records.now) }
 {

@@ -48,7 +48,12 @@ impl<'a> Visitor for Listing<'a> {
     }
 }
 
-// Every channel and stream that is named in a body, guard or argument, with the record that names it.
+/// Every channel and stream that is named in a body, guard or argument, with the record that names
+/// it, in reading order.
+///
+/// # Errors
+///
+/// Want of memory, which comes only where something is named.
 pub fn list_references(alloc: Global, records: &[Record]) -> Result<Vec<Reference>, AllocError>
     ensures { let all = references [] (map entry_of records.now) in
         MatchResult result (λ v. v.items ≡ all) (λ _. 0 < length all) }

@@ -21,7 +21,9 @@ impl Scope {
     // The type of an operand, at most `depth` deep, once its own divisor is looked at.
     #[cycle(shape)]
     fn operand(&self, e: &Expr, depth: u8) -> Result<Type, Cause>
-        ensures { by_number result ≡ operand (shape self.now.channels.items self.now.streams.items depth) (exp e.now) }
+        ensures { let cs = self.now.channels.items in
+            let ss = self.now.streams.items in
+            by_number result ≡ operand (shape cs ss depth) (exp e.now) }
     {
         settled(e, self.shape(e, depth)?)
     }
@@ -30,7 +32,9 @@ impl Scope {
     #[cycle(shape)]
     #[tactic(auto, using(crate::proofs::Shapes::shaped), unfolding(crate::specs::Typing::shape))]
     pub(crate) fn shape(&self, e: &Expr, depth: u8) -> Result<Type, Cause>
-        ensures { by_number result ≡ shape self.now.channels.items self.now.streams.items depth (exp e.now) }
+        ensures { let cs = self.now.channels.items in
+            let ss = self.now.streams.items in
+            by_number result ≡ shape cs ss depth (exp e.now) }
     {
         if depth == 0 {
             return Err(Cause::Limit(place(e)));

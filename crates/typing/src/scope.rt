@@ -30,7 +30,8 @@ impl Scope {
     // Adds the type of a record that is a channel or a stream.
     fn add(&mut self, r: &Record) -> Result<(), AllocError>
         ensures { let e = entry_of r.now in
-            MatchResult result (λ _. Adds self.old e self.new) (λ _. 0 < count Channel (e ∷ []) + count Stream (e ∷ [])) }
+            let declared = count Channel (e ∷ []) + count Stream (e ∷ []) in
+            MatchResult result (λ _. Adds self.old e self.new) (λ _. 0 < declared) }
     {
         match r {
             Record::Channel(ty) => self.channels.push(*ty)?,

@@ -25,7 +25,9 @@ fn fits(want: Option<Type>, ty: Type) -> bool
 impl Scope {
     // Judges a whole expression: what is in it, the type that is wanted, and then its own divisor.
     fn judge(&self, e: &Expr, want: Option<Type>) -> Result<(), Cause>
-        ensures { by_number result ≡ judged self.now.channels.items self.now.streams.items want (exp e.now) }
+        ensures { let cs = self.now.channels.items in
+            let ss = self.now.streams.items in
+            by_number result ≡ judged cs ss want (exp e.now) }
     {
         let ty = self.shape(e, DEPTH)?;
         if !fits(want, ty) {
@@ -37,7 +39,9 @@ impl Scope {
 
     // Judges a record: a body has its stream's type, a guard is a Bool, and arguments may have any type.
     fn judge_record(&self, r: &Record) -> Result<(), Cause>
-        ensures { by_number result ≡ entry_judged self.now.channels.items self.now.streams.items (entry_of r.now) }
+        ensures { let cs = self.now.channels.items in
+            let ss = self.now.streams.items in
+            by_number result ≡ entry_judged cs ss (entry_of r.now) }
     {
         match r {
             Record::Channel(_) => Ok(()),
@@ -50,7 +54,12 @@ impl Scope {
     }
 }
 
-// Refuses the first type or divisor of a table that does not fit.
+/// Checks the types and the divisors of a table's expressions, record by record.
+///
+/// # Errors
+///
+/// The first type or divisor that does not fit, with the byte where it starts; or want of memory,
+/// which comes only where there is a channel or a stream.
 pub fn check_types(alloc: Global, records: &[Record]) -> Result<(), Stop>
     ensures answer { Typed result (map entry_of records.now) }
     ensures typed { let rs = map entry_of records.now in
