@@ -1,13 +1,12 @@
--- An expression has one value over all sources that agree on what it names. Assumes nothing.
+-- At each place an expression has one value over all sources that agree there on what it names. Assumes nothing.
 use Rattle.std.proofs.Common.{◌≡◌, ℕ, List, [], ◌∷◌, ◌++◌, refl, ap}
 use Rattle.std.specs.List.{AllByRecursion}
-use Rattle.values.specs.declared.value.Value.{Value}
 use Rattle.values.specs.Values.{num, wrap}
 use Rattle.operators.specs.Operators.{unary}
 use Rattle.syntax.specs.Trees.{Exp}
 use Rattle.syntax.specs.Trees as tree
 use Rattle.names.specs.Uses.{uses}
-use Rattle.evaluation.specs.Meaning.{meaning, Agree, DependsOnNames}
+use Rattle.evaluation.specs.Meaning.{Samples, Values, meaning, Agree, DependsOnNames}
 
 -- what holds of each element of two lists holds of each of one of them
 module _ {X : Type 0} (P : X → Type 0) where
@@ -19,13 +18,13 @@ module _ {X : Type 0} (P : X → Type 0) where
   all_right [] ys h = h
   all_right (x ∷ xs) ys h = all_right xs ys h.1
 
-module _ (c : ℕ → Value) (s : ℕ → ℕ → Value) (c' : ℕ → Value) (s' : ℕ → ℕ → Value) where
-  agreeing : (e : Exp) → Agree c s c' s' (uses e) → meaning c s e ≡ meaning c' s' e
-  agreeing (tree.constant at v) h = refl
+module _ (x : Samples) (v : Values) (x' : Samples) (v' : Values) (p : ℕ) where
+  agreeing : (e : Exp) → Agree x v x' v' p (uses e) → meaning x v p e ≡ meaning x' v' p e
+  agreeing (tree.constant at w) h = refl
   agreeing (tree.channel at i) h = h.0
   agreeing (tree.stream at i d) h = h.0
   agreeing (tree.unary at o e) h = ap (unary o) (agreeing e h)
-  agreeing (tree.cast at t e) h = ap (λ v. wrap t (num v)) (agreeing e h)
+  agreeing (tree.cast at t e) h = ap (λ w. wrap t (num w)) (agreeing e h)
   agreeing (tree.binary at o a b) h =
       let left = agreeing a (all_left _ (uses a) (uses b) h) in
       let right = agreeing b (all_right _ (uses a) (uses b) h) in
@@ -38,4 +37,4 @@ module _ (c : ℕ → Value) (s : ℕ → ℕ → Value) (c' : ℕ → Value) (s
       cc
 
 pub depends_on_names : (e : Exp) → DependsOnNames e
-depends_on_names e c s c' s' h = agreeing c s c' s' e h
+depends_on_names e x v x' v' p h = agreeing x v x' v' p e h

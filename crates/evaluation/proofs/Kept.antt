@@ -1,12 +1,12 @@
--- A typed expression is no deeper than its types were sought, and its value has its type. Assumes nothing.
+-- A typed expression is no deeper than its types were sought, and its meaning has its type. Assumes nothing.
 use Rattle.std.proofs.Common.{◌≡◌, ℕ, zero, suc, ◌≤◌, Bool as Truth, true, false, cond, ◌&&◌, List, ◌++◌, ℤ, Some, None, Ok, Err, Option, Result, sym, refl, ap, ◌∙◌, arith}
 use Rattle.std.proofs.lemmas.Bool.{cond_both, and_parts, eqb-true}
-use Rattle.faults.specs.declared.cause.Cause.{Cause}
+use Rattle.faults.specs.Causes.{Refusal}
 use Rattle.values.specs.declared.types.«Type».{«Type» as Ty}
 use Rattle.values.specs.declared.types.«Type».TheVariants.{Bool}
 use Rattle.values.specs.declared.value.Value.{Value}
 use Rattle.values.specs.Types.{code, type_coded, casts}
-use Rattle.values.specs.Values.{type_of, num, wrap, modulo}
+use Rattle.values.specs.Values.{type_of, num, wrap, modulo, Proper}
 use Rattle.values.specs.Types.{width}
 use Rattle.values.proofs.Wrapping.{low_type}
 use Rattle.operators.specs.declared.operator.Unary.{Unary}
@@ -21,16 +21,17 @@ use Rattle.names.specs.Uses.{uses}
 use Rattle.typing.specs.Rules.{same, where_fit, unary_type, binary_type, settled, divided}
 use Rattle.syntax.specs.Passing.{then}
 use Rattle.typing.specs.Typing.{fitted, operand, shape}
-use Rattle.evaluation.specs.Meaning.{meaning, levels}
+use Rattle.evaluation.specs.Meaning.{Samples, Values, meaning, value_within, levels}
 use Rattle.evaluation.specs.Kept.{OfTypes, HasMeaning}
 use Rattle.evaluation.proofs.Agreeing.{all_left, all_right}
+use Rattle.evaluation.proofs.Levels.{whole}
 
 -- ---- taking an accepted answer apart
 
-refused : {X : Type 0} {c : Cause} {x : X} → ◌≡◌ {A = Result X Cause} (Err c) (Ok x) → ⊥
+refused : {X : Type 0} {c : Refusal} {x : X} → ◌≡◌ {A = Result X Refusal} (Err c) (Ok x) → ⊥
 refused e = cc
 
-then_ok : {X Y : Type 0} (r : Result X Cause) (f : X → Result Y Cause) (y : Y) → then r f ≡ Ok y → (x : X) × (r ≡ Ok x) × (f x ≡ Ok y)
+then_ok : {X Y : Type 0} (r : Result X Refusal) (f : X → Result Y Refusal) (y : Y) → then r f ≡ Ok y → (x : X) × (r ≡ Ok x) × (f x ≡ Ok y)
 then_ok (Ok x) f y e = (x, refl, e)
 then_ok (Err c) f y e = absurd (refused e)
 
@@ -51,7 +52,7 @@ same_true t u e =
     let back : Some t ≡ Some u = sym (type_back t) ∙ ap type_coded (eqb-true (code t) (code u) e) ∙ type_back u in
     cc
 
-operand_ok : (sub : Exp → Result Ty Cause) (e : Exp) (t : Ty) → operand sub e ≡ Ok t → sub e ≡ Ok t
+operand_ok : (sub : Exp → Result Ty Refusal) (e : Exp) (t : Ty) → operand sub e ≡ Ok t → sub e ≡ Ok t
 operand_ok sub e t h =
     let p = then_ok (sub e) (settled e) t h in
     p.1 ∙ ap Ok (settled_ok e p.0 t p.2)
@@ -92,7 +93,7 @@ module _ (cs ss : List Ty) where
     typed : shape cs ss d e ≡ Ok type
     rest : P type
 
-  one : (d : ℕ) (e : Exp) (f : Ty → Result Ty Cause) (t : Ty) → then (operand (shape cs ss d) e) f ≡ Ok t → One d e (λ u. f u ≡ Ok t)
+  one : (d : ℕ) (e : Exp) (f : Ty → Result Ty Refusal) (t : Ty) → then (operand (shape cs ss d) e) f ≡ Ok t → One d e (λ u. f u ≡ Ok t)
   one d e f t h =
       let p = then_ok (operand (shape cs ss d) e) f t h in
       record { type = p.0; typed = operand_ok (shape cs ss d) e p.0 p.1; rest = p.2 }
@@ -112,31 +113,33 @@ module _ (cs ss : List Ty) where
       let o = one d c _ t h in let p = one d a _ t o.rest in let q = one d b _ t p.rest in
       let k = shallow d c o.type o.typed in let l = shallow d a p.type p.typed in let m = shallow d b q.type q.typed in omega arith
 
-  module _ (c : ℕ → Value) (s : ℕ → ℕ → Value) where
-    pub kept : (d : ℕ) (e : Exp) (t : Ty) → shape cs ss d e ≡ Ok t → OfTypes cs ss c s (uses e) → type_of (meaning c s e) ≡ t
+  module _ (x : Samples) (v : Values) (p : ℕ) where
+    pub kept : (d : ℕ) (e : Exp) (t : Ty) → shape cs ss d e ≡ Ok t → OfTypes cs ss x v p (uses e) → type_of (meaning x v p e) ≡ t
     unfolding shape
     kept zero e t h w = absurd (refused h)
-    kept (suc d) (tree.constant at v) t h w = cc
-    kept (suc d) (tree.channel at i) t h w = let k = w.0 in cc
-    kept (suc d) (tree.stream at i x) t h w = let k = w.0 in cc
+    kept (suc d) (tree.constant at y) t h w = cc
+    kept (suc d) (tree.channel at i) t h w = let k = w.0.0 in cc
+    kept (suc d) (tree.stream at i y) t h w = let k = w.0.0 in cc
     kept (suc d) (tree.unary at o e) t h w =
-        let p = one d e _ t h in
-        unary_kept o (meaning c s e) p.type t (kept d e p.type p.typed w) (fitted_ok at (unary_type o p.type) t p.rest)
+        let q = one d e _ t h in
+        unary_kept o (meaning x v p e) q.type t (kept d e q.type q.typed w) (fitted_ok at (unary_type o q.type) t q.rest)
     kept (suc d) (tree.cast at u e) t h w =
-        let p = one d e _ t h in
-        wrap_type u (num (meaning c s e)) ∙ (fit_ok (casts p.type u) u t (fitted_ok at (where_fit (casts p.type u) u) t p.rest)).1
+        let q = one d e _ t h in
+        wrap_type u (num (meaning x v p e)) ∙ (fit_ok (casts q.type u) u t (fitted_ok at (where_fit (casts q.type u) u) t q.rest)).1
     kept (suc d) (tree.binary at o a b) t h w =
-        let p = one d a _ t h in let q = one d b _ t p.rest in
-        binary_kept o (meaning c s a) (meaning c s b) p.type q.type t (kept d a p.type p.typed (all_left _ (uses a) (uses b) w)) (fitted_ok at (binary_type o p.type q.type) t q.rest)
-    kept (suc d) (tree.choose at x a b) t h w =
-        let o = one d x _ t h in let p = one d a _ t o.rest in let q = one d b _ t p.rest in
-        let rest = all_right _ (uses x) (uses a ++ uses b) w in
-        let test = same o.type Bool && same p.type q.type in
-        let f = fit_ok test p.type t (fitted_ok at (where_fit test p.type) t q.rest) in
-        let one_type = same_true p.type q.type (and_parts (same o.type Bool) (same p.type q.type) f.0).1 in
-        chosen_kept (truth (meaning c s x)) (meaning c s a) (meaning c s b) p.type q.type t
-        (kept d a p.type p.typed (all_left _ (uses a) (uses b) rest)) (kept d b q.type q.typed (all_right _ (uses a) (uses b) rest)) one_type f.1
+        let q = one d a _ t h in let r = one d b _ t q.rest in
+        binary_kept o (meaning x v p a) (meaning x v p b) q.type r.type t (kept d a q.type q.typed (all_left _ (uses a) (uses b) w)) (fitted_ok at (binary_type o q.type r.type) t r.rest)
+    kept (suc d) (tree.choose at y a b) t h w =
+        let o = one d y _ t h in let q = one d a _ t o.rest in let r = one d b _ t q.rest in
+        let rest = all_right _ (uses y) (uses a ++ uses b) w in
+        let test = same o.type Bool && same q.type r.type in
+        let f = fit_ok test q.type t (fitted_ok at (where_fit test q.type) t r.rest) in
+        let one_type = same_true q.type r.type (and_parts (same o.type Bool) (same q.type r.type) f.0).1 in
+        chosen_kept (truth (meaning x v p y)) (meaning x v p a) (meaning x v p b) q.type r.type t
+        (kept d a q.type q.typed (all_left _ (uses a) (uses b) rest)) (kept d b r.type r.typed (all_right _ (uses a) (uses b) rest)) one_type f.1
 
--- a value that is the meaning of each expression that is not too deep
-pub has_meaning : (c : ℕ → Value) (s : ℕ → ℕ → Value) (e : Exp) (v : Value) → (levels e ≤ 12 → v ≡ meaning c s e) → HasMeaning c s e v
-has_meaning c s e v is cs ss t h = let m = is (shallow cs ss 12 e t h) in (m, λ w. ap type_of m ∙ kept cs ss c s 12 e t h w)
+-- a value in its range, worked out 12 levels deep, is the meaning of each typed expression
+pub has_meaning : (x : Samples) (v : Values) (p : ℕ) (e : Exp) (w : Value) → w ≡ value_within 12 x v p e → Proper w → HasMeaning x v p e w
+has_meaning x v p e w is ranged cs ss t h =
+    let m = is ∙ whole x v p 12 e (shallow cs ss 12 e t h) in
+    (m, λ named. (ap type_of m ∙ kept cs ss x v p 12 e t h named, ranged))

@@ -1,3 +1,4 @@
 pub mod Agreeing
 pub mod Levels
 pub mod Kept
+pub mod Ranges

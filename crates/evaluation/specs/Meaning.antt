@@ -1,7 +1,8 @@
--- The value of an expression, over the samples of channels and the values of streams. Assumes nothing.
-use Rattle.std.specs.Prelude.{◌≡◌, ℕ, ◌+◌, max, List}
+-- The value of an expression at a place, over the samples of channels and the values of streams. Assumes nothing.
+use Rattle.std.specs.Prelude.{◌≡◌, ℕ, zero, suc, ◌+◌, false, max, List}
 use Rattle.std.specs.List.{AllByRecursion}
 use Rattle.values.specs.declared.value.Value.{Value}
+use Rattle.values.specs.declared.value.Value.TheVariants.{Bool}
 use Rattle.values.specs.Values.{num, wrap}
 use Rattle.operators.specs.Operators.{unary, binary, chosen}
 use Rattle.syntax.specs.Trees.{Exp}
@@ -10,15 +11,38 @@ use Rattle.names.specs.declared.uses.Name.{Name}
 use Rattle.names.specs.declared.uses.Name.TheVariants as name
 use Rattle.names.specs.Uses.{Use, uses}
 
--- the value, where c has the sample of each channel by its number, and s the value of each stream by its number and drop
-abbrev pub meaning : (ℕ → Value) → (ℕ → ℕ → Value) → Exp → Value
-meaning c s (tree.constant at v) = v
-meaning c s (tree.channel at i) = c i
-meaning c s (tree.stream at i d) = s i d
-meaning c s (tree.unary at o e) = unary o (meaning c s e)
-meaning c s (tree.cast at t e) = wrap t (num (meaning c s e))
-meaning c s (tree.binary at o a b) = binary o (meaning c s a) (meaning c s b)
-meaning c s (tree.choose at t a b) = chosen (meaning c s t) (meaning c s a) (meaning c s b)
+-- the samples by tick and channel
+abbrev pub Samples : Type 0
+Samples = ℕ → ℕ → Value
+
+-- the values by stream and index
+abbrev pub Values : Type 0
+Values = ℕ → ℕ → Value
+
+-- the value of an expression at p: a channel reads as its sample of tick p, and a stream with drop d as its value at p + d
+abbrev pub meaning : Samples → Values → ℕ → Exp → Value
+meaning x v p (tree.constant at w) = w
+meaning x v p (tree.channel at i) = x p i
+meaning x v p (tree.stream at i d) = v i (p + d)
+meaning x v p (tree.unary at o e) = unary o (meaning x v p e)
+meaning x v p (tree.cast at t e) = wrap t (num (meaning x v p e))
+meaning x v p (tree.binary at o a b) = binary o (meaning x v p a) (meaning x v p b)
+meaning x v p (tree.choose at t a b) = chosen (meaning x v p t) (meaning x v p a) (meaning x v p b)
+
+-- the value at p of an expression whose operands have the values that `sub` gives
+abbrev pub composed : Samples → Values → ℕ → (Exp → Value) → Exp → Value
+composed x v p sub (tree.constant at w) = w
+composed x v p sub (tree.channel at i) = x p i
+composed x v p sub (tree.stream at i d) = v i (p + d)
+composed x v p sub (tree.unary at o e) = unary o (sub e)
+composed x v p sub (tree.cast at t e) = wrap t (num (sub e))
+composed x v p sub (tree.binary at o a b) = binary o (sub a) (sub b)
+composed x v p sub (tree.choose at t a b) = chosen (sub t) (sub a) (sub b)
+
+-- the value at p of an expression that is at most so deep; what is deeper reads as false
+unfoldable pub value_within : ℕ → Samples → Values → ℕ → Exp → Value
+value_within zero x v p e = Bool false
+value_within (suc d) x v p e = composed x v p (value_within d x v p) e
 
 -- how deep an expression is
 abbrev pub levels : Exp → ℕ
@@ -30,16 +54,16 @@ levels (tree.cast at t e) = levels e + 1
 levels (tree.binary at o a b) = max (levels a) (levels b) + 1
 levels (tree.choose at t a b) = max (levels t) (max (levels a) (levels b)) + 1
 
--- two sources have one value at a name
-abbrev pub Same : (ℕ → Value) → (ℕ → ℕ → Value) → (ℕ → Value) → (ℕ → ℕ → Value) → Name → Type 0
-Same c s c' s' (name.Channel i) = c i ≡ c' i
-Same c s c' s' (name.Stream i d) = s i d ≡ s' i d
+-- what two sources have at p under a name is the same
+abbrev pub Same : Samples → Values → Samples → Values → ℕ → Name → Type 0
+Same x v x' v' p (name.Channel i) = x p i ≡ x' p i
+Same x v x' v' p (name.Stream i d) = v i (p + d) ≡ v' i (p + d)
 
--- two sources agree on what is used
-abbrev pub Agree : (ℕ → Value) → (ℕ → ℕ → Value) → (ℕ → Value) → (ℕ → ℕ → Value) → List Use → Type 0
-Agree c s c' s' us = AllByRecursion (λ u. Same c s c' s' u.name) us
+-- two sources agree at p on what is used
+abbrev pub Agree : Samples → Values → Samples → Values → ℕ → List Use → Type 0
+Agree x v x' v' p us = AllByRecursion (λ u. Same x v x' v' p u.name) us
 
--- an expression has one value over all sources that agree on what it names
+-- at each place an expression has one value over all sources that agree there on what it names
 abbrev pub DependsOnNames : Exp → Type 0
 DependsOnNames e =
-    (c : ℕ → Value) (s : ℕ → ℕ → Value) (c' : ℕ → Value) (s' : ℕ → ℕ → Value) → Agree c s c' s' (uses e) → meaning c s e ≡ meaning c' s' e
+    (x : Samples) (v : Values) (x' : Samples) (v' : Values) (p : ℕ) → Agree x v x' v' p (uses e) → meaning x v p e ≡ meaning x' v' p e
