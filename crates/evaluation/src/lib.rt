@@ -3,3 +3,5 @@
 
 pub mod evaluate;
 pub mod source;
+#[cfg(test)]
+mod tests;
