@@ -1,6 +1,6 @@
 -- Results that are worked out on integers of 128 bits, and then wrapped. Assumes nothing.
-use Rattle.std.proofs.Common.{◌≡◌, ℕ, suc, ◌-◌, ◌/◌, ◌%◌, ◌^◌, ◌≤◌, ℤ, pos, negsuc, neg_ℤ, nat_abs, refl, ap, ◌∙◌, div-le_self, arith, lit<, to_z, of_z}
-use native.Mathlib.Nat.{mod-zero}
+use Rattle.std.proofs.Common.{◌≡◌, ℕ, suc, ◌-◌, ◌/◌, ◌%◌, ◌^◌, ◌≤◌, ℤ, pos, negsuc, neg_ℤ, nat_abs, sym, refl, ap, ◌∙◌, div-le_self, arith, lit<, to_z, of_z}
+use native.Mathlib.Nat.{mod-zero, div-zero}
 use mir.Syntax.{w128}
 use lib.Signed.{quot_z, rem_z}
 use borrow.Author.Differences.{same_in, sum_is_lem}
@@ -36,6 +36,14 @@ quot_le (pos a) (pos b) = div-le_self a b
 quot_le (pos a) (negsuc b) = omega (arith, neg_abs (a / suc b), div-le_self a (suc b))
 quot_le (negsuc a) (pos b) = omega (arith, neg_abs (suc a / b), div-le_self (suc a) b)
 quot_le (negsuc a) (negsuc b) = div-le_self (suc a) (suc b)
+
+-- a quotient by 0 is 0
+quot_none : (z d : ℤ) → d ≡ pos 0 → quot_z z d ≡ pos 0
+quot_none (pos a) d e = ap (quot_z (pos a)) e ∙ ap pos (div-zero a)
+quot_none (negsuc a) d e = ap (quot_z (negsuc a)) e ∙ ap (λ n. neg_ℤ (pos n)) (div-zero (suc a))
+
+pub wrap_none : (t : Ty) (z d : ℤ) → d ≡ pos 0 → wrap t (pos 0) ≡ wrap t (quot_z z d)
+wrap_none t z d e = ap (wrap t) (sym (quot_none z d e))
 
 -- nothing is taken off by 0
 pub rem_none : (z d : ℤ) → d ≡ pos 0 → rem_z z d ≡ z

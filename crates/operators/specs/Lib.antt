@@ -1,2 +1,3 @@
 pub mod Operators
 pub mod Division
+pub mod Minimums

@@ -3,5 +3,5 @@ use Rattle.std.proofs.lemmas.Int.{wraps}
 use Rattle.operators.proofs.Wide.{rem_none}
 use Rattle.operators.proofs.arithmetic.remainder.Goals as goal
 
-pub returns-in-0 : goal.returns-in-0
-returns-in-0 c = search (rules, wraps, rem_none)
+pub returns-then-b-eq0 : goal.returns-then-b-eq0
+returns-then-b-eq0 c = search (rules, wraps, rem_none)
