@@ -3,6 +3,7 @@ use Rattle.std.specs.Prelude.{◌≡◌, ℕ, zero, suc, ◌≤◌, List, [], �
 use Rattle.faults.specs.declared.cause.Cause.{Cause}
 use Rattle.faults.specs.declared.cause.Cause.TheVariants.{ClosedWalk, ChannelWalk}
 use Rattle.faults.specs.declared.fault.Fault.{Fault}
+use Rattle.operators.specs.Minimums.{KeepsMinimum}
 use Rattle.schedule.specs.declared.plan.Counts.{Counts}
 use Rattle.schedule.specs.Graphs.{stream, graph}
 use Rattle.schedule.specs.Plans.{lead_by}
@@ -113,6 +114,9 @@ pub record AsWorked (w : WorkedCases) : Type 0 where
   pub none : w.none ≡ Ok 2
   pub bridged : w.bridged ≡ Some (value.Word8 5) ∷ Some (value.Word8 5) ∷ Some (value.Word8 5) ∷ None ∷ []
   pub sum : w.edges.sum ≡ value.Word8 0
-  pub minimum : w.edges.minimum ≡ value.Int8 (negsuc 127)
   pub fraction : w.edges.fraction ≡ value.Int8 (negsuc 2)
   pub rest : w.edges.rest ≡ value.Int8 (negsuc 0)
+  pub int8 : KeepsMinimum (value.Int8 (negsuc 127)) (value.Int8 (pos 0)) w.edges.int8
+  pub int16 : KeepsMinimum (value.Int16 (negsuc 32767)) (value.Int16 (pos 0)) w.edges.int16
+  pub int32 : KeepsMinimum (value.Int32 (negsuc 2147483647)) (value.Int32 (pos 0)) w.edges.int32
+  pub int64 : KeepsMinimum (value.Int64 (negsuc 9223372036854775807)) (value.Int64 (pos 0)) w.edges.int64

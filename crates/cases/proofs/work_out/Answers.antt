@@ -16,7 +16,10 @@ returns c = record {
   none = slots_are (one_stream 0) c.in_ok-none.none (subst (λ (l : List ℕ). Verdict l c.in_ok-none.none) c.one_stream-2.ensures c.in_ok-none.ensures) 2 none_ahead;
   bridged = c.bridge_five.ensures;
   sum = c.edge_cases.ensures.sum;
-  minimum = c.edge_cases.ensures.minimum;
   fraction = c.edge_cases.ensures.fraction;
   rest = c.edge_cases.ensures.rest;
+  int8 = c.edge_cases.ensures.int8;
+  int16 = c.edge_cases.ensures.int16;
+  int32 = c.edge_cases.ensures.int32;
+  int64 = c.edge_cases.ensures.int64;
 }
