@@ -5,6 +5,7 @@ use Rattle.std.proofs.ByRecursion.{All-take}
 use Rattle.std.proofs.lemmas.Bool.Decides.{nat_tests}
 use Rattle.std.proofs.lemmas.List.{append_assoc, append-nil, drop_all}
 use Rattle.std.proofs.lemmas.Bool.{lt-ltb, le-ltb, le-leb, cond-true, cond-false}
+use Rattle.faults.specs.Causes.{refusal}
 use Rattle.faults.specs.declared.cause.Cause.TheVariants.{Malformed, Limit}
 use Rattle.values.specs.declared.value.Value.{Value}
 use Rattle.values.specs.Types.{code}
@@ -12,7 +13,7 @@ use Rattle.values.specs.Bytes.{encoded}
 use Rattle.values.specs.Values.{HasType}
 use Rattle.syntax.specs.declared.record.Kind.{Kind}
 use Rattle.syntax.specs.Answers.{Found, then}
-use Rattle.syntax.specs.Parts.{named, value_from}
+use Rattle.syntax.specs.Parts.{named, value_from, result_to}
 use Rattle.syntax.specs.Parsing.{parse}
 use Rattle.syntax.specs.Entries.{Entry, kind_of, kind_code, kind_coded, limit, count}
 use Rattle.syntax.specs.Entries as entry
@@ -78,7 +79,7 @@ module _ (bs : List ℕ) (small : AllByRecursion (λ b. b < 256) bs) where
 
   filled_is : (r : Entry) (at n : ℕ) → Stands bs at (payload r) n → n ≡ length bs → Small r → filled (kind_of r) bs at ≡ Ok (placed_payload at r, n)
   filled_is r at n s e l =
-      ap (λ f. then f (λ r n. cond (eqb n (length bs)) (Ok (r, n)) (Err (Malformed n)))) (body_is r at n s (omega (arith, e)) l)
+      ap (λ f. then f (λ r n. cond (eqb n (length bs)) (Ok (r, n)) (Err (refusal (Malformed n))))) (body_is r at n s (omega (arith, e)) l)
       ∙ cond-true _ _ _ (ap (λ m. eqb n m) (sym e) ∙ eqb_same n)
 
 counts : (before : List Entry) (r : Entry) (rs : List Entry) (at : ℕ) → ((k : Kind) → count k before + count k (r ∷ rs) ≤ limit k) → (k : Kind) → count k (before ++ (placed_entry at r ∷ [])) + count k rs ≤ limit k
@@ -100,9 +101,9 @@ module _ (bs : List ℕ) (small : AllByRecursion (λ b. b < 256) bs) where
       ap (λ e. passing.then e (framed bs at)) sp.0
       ∙ cond-true _ _ _ (lt-ltb (at + 2) n (omega (arith, q3))) ∙ ap (λ x. named (kind_coded x) (at + 2) n) f3.1 ∙ ap (λ o. named o (at + 2) n) (kind_back (kind_of r)) in
       let inside = narrowed bs n h (omega arith) (subst (λ x. Stands bs x (payload r) n) three f3.2) in
-      ap (λ f. then f (λ k end. cond (ltb (count k before) (limit k)) (filled k (take end bs) (at + 3)) (Err (Limit (at + 2))))) framed_is
+      ap (λ f. then f (λ k end. cond (ltb (count k before) (limit k)) (result_to bs end (filled k (take end bs) (at + 3))) (Err (refusal (Limit (at + 2)))))) framed_is
       ∙ cond-true _ _ _ (lt-ltb (count (kind_of r) before) (limit (kind_of r)) room)
-      ∙ filled_is (take n bs) (All-take (λ b. b < 256) n bs small) r (at + 3) n inside (sym (front_long bs n h)) l
+      ∙ ap (result_to bs n) (filled_is (take n bs) (All-take (λ b. b < 256) n bs small) r (at + 3) n inside (sym (front_long bs n h)) l)
 
   entries_are : (f : ℕ) (before rs : List Entry) (at : ℕ) → Stands bs at (write rs) (length bs) → length bs ≤ at + f → AllByRecursion Small rs → ((k : Kind) → count k before + count k rs ≤ limit k) → entries f before bs at ≡ Ok (before ++ each placed_entry write_entry at rs)
   unfolding entries

@@ -3,6 +3,7 @@ use Rattle.std.proofs.Common.{◌≡◌, ℕ, zero, suc, ◌+◌, ◌<◌, ◌�
 use Rattle.std.specs.List.{AllByRecursion}
 use Rattle.std.proofs.lemmas.Bool.{lt-ltb, le-ltb, cond-true, cond-false}
 use Rattle.std.proofs.lemmas.Bool.Decides.{nat_tests}
+use Rattle.faults.specs.Causes.{refusal}
 use Rattle.faults.specs.declared.cause.Cause.TheVariants.{Limit}
 use Rattle.values.specs.Types.{code}
 use Rattle.values.specs.Values.{type_of}
@@ -51,7 +52,7 @@ module _ (bs : List ℕ) (small : AllByRecursion (λ b. b < 256) bs) where
   head_is d at o h e =
       cond-true _ _ _ (lt-ltb at (length bs) h) ∙ ap (λ x. then (at_level (suc d) at (op_coded x)) (λ o n. after bs at o)) e
       ∙ ap (λ x. then (at_level (suc d) at x) (λ o n. after bs at o)) (code_back o)
-      ∙ ap (λ b. then (cond b (Err (Limit at)) (Ok (o, at))) (λ o n. after bs at o)) (deep d)
+      ∙ ap (λ b. then (cond b (Err (refusal (Limit at))) (Ok (o, at))) (λ o n. after bs at o)) (deep d)
 
   pub complete : (d : ℕ) (e : Exp) (at n : ℕ) → Stands bs at (written e) n → n ≤ length bs → Bounded d e → parse d bs at ≡ Ok (placed at e, n)
   unfolding parse

@@ -1,6 +1,7 @@
 -- Parts read one after another, and how many records are of a kind: a loop's steps. Assumes nothing.
 use Rattle.std.proofs.Common.{◌≡◌, ℕ, suc, ◌+◌, ◌-◌, ◌<◌, ◌≤◌, List, [], ◌∷◌, ◌++◌, Ok, Err, sym, refl, ap, ◌∙◌, arith}
 use Rattle.std.proofs.lemmas.List.{append-nil, append_assoc}
+use Rattle.faults.specs.Causes.{Refusal, refusal}
 use Rattle.faults.specs.declared.cause.Cause.{Cause}
 use Rattle.faults.specs.declared.stop.Stop.{Stop}
 use Rattle.faults.specs.declared.stop.Stop.TheVariants.{Refused, Memory}
@@ -26,7 +27,7 @@ module _ {X : Type 0} (one : ℕ → Found X) where
   unfolding many
   many_one k at x n e = ap (λ h. then h (λ x m. then (many one k m) (λ ys l. Ok (x ∷ ys, l)))) e
 
-  pub many_stop : (k at : ℕ) (x : Cause) → one at ≡ Err x → many one (suc k) at ≡ Err x
+  pub many_stop : (k at : ℕ) (x : Refusal) → one at ≡ Err x → many one (suc k) at ≡ Err x
   unfolding many
   many_stop k at x e = ap (λ h. then h (λ x m. then (many one k m) (λ ys l. Ok (x ∷ ys, l)))) e
 
@@ -40,7 +41,7 @@ module _ {X : Type 0} (one : ℕ → Found X) where
         let s : k - i ≡ suc (k - (i + 1)) = omega arith in
         w ∙ ap (λ m. onto items (many one m at)) s ∙ ap (onto items) (many_one (k - (i + 1)) at x n e) ∙ onto_one items x _
 
-    pub many_err : (items : List X) (k i at : ℕ) (x : Cause) → i < k → one at ≡ Err x → whole ≡ onto items (many one (k - i) at) → whole ≡ Err x
+    pub many_err : (items : List X) (k i at : ℕ) (x : Refusal) → i < k → one at ≡ Err x → whole ≡ onto items (many one (k - i) at) → whole ≡ Err x
     many_err items k i at x h e w =
         let s : k - i ≡ suc (k - (i + 1)) = omega arith in
         w ∙ ap (λ m. onto items (many one m at)) s ∙ ap (onto items) (many_stop (k - (i + 1)) at x e)
@@ -52,5 +53,5 @@ module _ {X : Type 0} (one : ℕ → Found X) where
 
     -- what stops one part stops the whole
     pub many_stopped : (s : Stop Cause) (items : List X) (k i at : ℕ) → i < k → Stopped s (one at) → whole ≡ onto items (many one (k - i) at) → Stopped s whole
-    many_stopped (Refused x) items k i at h e w = many_err items k i at x h e w
+    many_stopped (Refused x) items k i at h e w = many_err items k i at (refusal x) h e w
     many_stopped Memory items k i at h e w = tt

@@ -2,10 +2,10 @@
 use Rattle.std.proofs.Common.{◌≡◌, ℕ, ◌+◌, ◌-◌, ◌<◌, ◌≤◌, Bool, true, false, cond, eqb, List, [], ◌∷◌, ◌++◌, length, get_or, take, drop, Some, None, Ok, Err, Option, sym, refl, ap, ◌∙◌, subst, arith, Result}
 use Rattle.std.proofs.lemmas.List.{append_assoc, drop_more, drop-drop, drop_at, drop-append-le, take_at, take-append-drop, length-take-le, length-drop, length-append}
 use Rattle.std.proofs.lemmas.Bool.{cond_both, eqb-true}
-use Rattle.faults.specs.declared.cause.Cause.{Cause}
+use Rattle.faults.specs.Causes.{Refusal}
 use Rattle.values.specs.Types.{first_coded}
 use Rattle.syntax.specs.Answers.{Found, then}
-use Rattle.syntax.specs.Parts.{named}
+use Rattle.syntax.specs.Parts.{named, result_to}
 use Rattle.syntax.specs.Passing as passing
 
 -- ws stands at a place, and n is the place after it
@@ -93,7 +93,7 @@ Good P (Ok p) = P p.0 p.1
 Good P (Err x) = Unit {0}
 
 -- Q of what reading ends with
-abbrev pub Ends : {Y : Type 0} → (Y → Type 0) → Result Y Cause → Type 0
+abbrev pub Ends : {Y : Type 0} → (Y → Type 0) → Result Y Refusal → Type 0
 Ends Q (Ok y) = Q y
 Ends Q (Err x) = Unit {0}
 
@@ -102,15 +102,20 @@ good_then P Q (Ok p) g h k = k p.0 p.1 h
 good_then P Q (Err x) g h k = tt
 
 -- what passes a test
-pub good_if : {X : Type 0} (P : X → ℕ → Type 0) (b : Bool) (f : Found X) (x : Cause) → (b ≡ true → Good P f) → Good P (cond b f (Err x))
+pub good_if : {X : Type 0} (P : X → ℕ → Type 0) (b : Bool) (f : Found X) (x : Refusal) → (b ≡ true → Good P f) → Good P (cond b f (Err x))
 good_if P b f x h = cond_both b f (Err x) (Good P) h (λ _. tt)
 
-pub good_unless : {X : Type 0} (P : X → ℕ → Type 0) (b : Bool) (f : Found X) (x : Cause) → (b ≡ false → Good P f) → Good P (cond b (Err x) f)
+pub good_unless : {X : Type 0} (P : X → ℕ → Type 0) (b : Bool) (f : Found X) (x : Refusal) → (b ≡ false → Good P f) → Good P (cond b (Err x) f)
 good_unless P b f x h = cond_both b (Err x) f (Good P) (λ _. tt) h
 
 pub good_weaker : {X : Type 0} (P Q : X → ℕ → Type 0) (f : Found X) → Good P f → ((x : X) (n : ℕ) → P x n → Q x n) → Good Q f
 good_weaker P Q (Ok p) h k = k p.0 p.1 h
 good_weaker P Q (Err x) h k = tt
+
+-- what was found up to the end of a record or row
+pub good_to : {X : Type 0} (P : X → ℕ → Type 0) (bs : List ℕ) (end : ℕ) (f : Found X) → Good P f → Good P (result_to bs end f)
+good_to P bs end (Ok p) h = h
+good_to P bs end (Err x) h = tt
 
 pub good_named : {X : Type 0} (P : X → ℕ → Type 0) (o : Option X) (at next : ℕ) → ((x : X) → o ≡ Some x → P x next) → Good P (named o at next)
 good_named P None at next k = tt
@@ -126,6 +131,6 @@ coded f (y ∷ ys) n x e =
     e
 
 -- what follows a part that was found without a place
-pub good_after : {X Y : Type 0} (P : X → Type 0) (Q : Y → ℕ → Type 0) (r : Result X Cause) (g : X → Found Y) → Ends P r → ((x : X) → P x → Good Q (g x)) → Good Q (passing.then r g)
+pub good_after : {X Y : Type 0} (P : X → Type 0) (Q : Y → ℕ → Type 0) (r : Result X Refusal) (g : X → Found Y) → Ends P r → ((x : X) → P x → Good Q (g x)) → Good Q (passing.then r g)
 good_after P Q (Ok x) g h k = k x h
 good_after P Q (Err c) g h k = tt

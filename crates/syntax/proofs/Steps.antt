@@ -1,6 +1,6 @@
 -- What `parse` is, by the head. Assumes nothing.
 use Rattle.std.proofs.Common.{◌≡◌, ℕ, zero, suc, ◌-◌, ◌<◌, List, Some, Ok, Err, ap, arith}
-use Rattle.faults.specs.declared.cause.Cause.{Cause}
+use Rattle.faults.specs.Causes.{Refusal}
 use Rattle.values.specs.declared.types.«Type».{«Type» as Ty}
 use Rattle.syntax.specs.declared.codes.Op.TheVariants.{Constant}
 use Rattle.syntax.specs.declared.tree.Node.TheVariants as node
@@ -13,7 +13,7 @@ use Rattle.syntax.specs.Heads.{head}
 use Rattle.syntax.specs.Parsing.{grown, parse}
 
 -- where no head stands, no expression does
-pub stops : (bs : List ℕ) (at d : ℕ) {x : Cause} → head d bs at ≡ Err x → parse d bs at ≡ Err x
+pub stops : (bs : List ℕ) (at d : ℕ) {x : Refusal} → head d bs at ≡ Err x → parse d bs at ≡ Err x
 unfolding parse
 stops bs at zero e = ap (λ h. then h (grown (λ n. Ok (channel 0 0, n)) at)) e
 stops bs at (suc d) e = ap (λ h. then h (grown (parse d bs) at)) e

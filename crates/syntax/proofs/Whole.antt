@@ -4,7 +4,7 @@ use Rattle.std.specs.List.{AllByRecursion}
 use Rattle.std.proofs.lemmas.List.{append-nil, drop_all, drop_more}
 use Rattle.std.proofs.ByRecursion.{All-append}
 use Rattle.std.proofs.lemmas.Bool.{ltb-false, leb-true, eqb-true, cond_both}
-use Rattle.faults.specs.declared.cause.Cause.{Cause}
+use Rattle.faults.specs.Causes.{Refusal}
 use Rattle.syntax.specs.declared.record.Kind.{Kind}
 use Rattle.syntax.specs.declared.record.Kind.TheVariants.{Channel, Stream, Rule}
 use Rattle.syntax.specs.Answers.{Found, then}
@@ -16,7 +16,7 @@ use Rattle.syntax.proofs.Stand.{Stands, nothing, join, Good, Ends}
 use Rattle.syntax.proofs.Records.{RAt, sound_entry}
 use Rattle.syntax.proofs.Parts.{joined_push}
 
-ends_then : {X Y : Type 0} (P : X → ℕ → Type 0) (Q : Y → Type 0) (f : Found X) (g : X → ℕ → Result Y Cause) → Good P f → ((x : X) (n : ℕ) → P x n → Ends Q (g x n)) → Ends Q (then f g)
+ends_then : {X Y : Type 0} (P : X → ℕ → Type 0) (Q : Y → Type 0) (f : Found X) (g : X → ℕ → Result Y Refusal) → Good P f → ((x : X) (n : ℕ) → P x n → Ends Q (g x n)) → Ends Q (then f g)
 ends_then P Q (Ok p) g h k = k p.0 p.1 h
 ends_then P Q (Err x) g h k = tt
 
@@ -69,7 +69,7 @@ module _ (bs : List ℕ) (small : AllByRecursion (λ b. b < 256) bs) where
       let last : drop (length bs) bs ≡ [] = drop_all (length bs) bs (omega arith) in
       drop_more bs 0 0 some ∙ (λ i. v i ∷ (h.0.here ∙ ap (λ l. write rs ++ l) last ∙ append-nil (write rs)) i)
 
-  finish : (r : Result (List Entry) Cause) → get_or bs 0 0 ≡ 1 → 0 < length bs → length bs ≤ 8192 → Ends AllRead r → Ends Kept r
+  finish : (r : Result (List Entry) Refusal) → get_or bs 0 0 ≡ 1 → 0 < length bs → length bs ≤ 8192 → Ends AllRead r → Ends Kept r
   finish (Ok rs) v some l h = (whole rs v some h, l, h.2, h.3)
   finish (Err x) v some l h = tt
 

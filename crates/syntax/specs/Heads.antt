@@ -1,5 +1,6 @@
 -- The first bytes of an expression, before its operands. The list ends where the record ends. Assumes nothing.
 use Rattle.std.specs.Prelude.{ℕ, ◌+◌, cond, List, Some, None, Ok, Err, Option, ◌==◌, nat_lt, slice_index}
+use Rattle.faults.specs.Causes.{refusal}
 use Rattle.faults.specs.declared.cause.Cause.TheVariants.{Malformed, Limit}
 use Rattle.syntax.specs.declared.codes.Op.{Op}
 use Rattle.syntax.specs.declared.codes.Op.TheVariants.{Constant, Channel, Stream, Unary, Cast, Binary, Choose}
@@ -15,7 +16,7 @@ after bs at Constant = then (type_from bs (at + 1)) (λ t n. then (value_from bs
 after bs at Channel = within bs (at + 1) (Ok (node.Channel (slice_index bs (at + 1)), at + 2))
 after bs at Stream =
     within bs (at + 1) (within bs (at + 2)
-    (cond (nat_lt 63 (slice_index bs (at + 2))) (Err (Limit (at + 2))) (Ok (node.Stream (slice_index bs (at + 1)) (slice_index bs (at + 2)), at + 3))))
+    (cond (nat_lt 63 (slice_index bs (at + 2))) (Err (refusal (Limit (at + 2)))) (Ok (node.Stream (slice_index bs (at + 1)) (slice_index bs (at + 2)), at + 3))))
 after bs at (Unary o) = Ok (node.Unary o, at + 1)
 after bs at Cast = then (type_from bs (at + 1)) (λ t n. Ok (node.Cast t, n))
 after bs at (Binary o) = Ok (node.Binary o, at + 1)
@@ -23,8 +24,8 @@ after bs at Choose = Ok (node.Choose, at + 1)
 
 -- the operator at a place, with so many levels left: an unknown code comes before a depth that is passed
 abbrev pub at_level : ℕ → ℕ → Option Op → Found Op
-at_level depth at None = Err (Malformed at)
-at_level depth at (Some o) = cond (depth == 0) (Err (Limit at)) (Ok (o, at))
+at_level depth at None = Err (refusal (Malformed at))
+at_level depth at (Some o) = cond (depth == 0) (Err (refusal (Limit at))) (Ok (o, at))
 
 unfoldable pub head : ℕ → List ℕ → ℕ → Found Node
 head depth bs at = within bs at (then (at_level depth at (op_coded (slice_index bs at))) (λ o n. after bs at o))

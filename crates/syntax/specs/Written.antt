@@ -1,7 +1,6 @@
 -- How a table is written, the limits that it keeps, and the law that reading accepts exactly what is written so. Assumes nothing.
 use Rattle.std.specs.Prelude.{◌≡◌, ℕ, zero, suc, ◌+◌, ◌/◌, ◌%◌, ◌≤◌, List, [], ◌∷◌, ◌++◌, length, Ok}
 use Rattle.std.specs.List.{AllByRecursion}
-use Rattle.values.specs.declared.value.Value.{Value}
 use Rattle.values.specs.Types.{code}
 use Rattle.values.specs.Values.{type_of, Proper, HasType}
 use Rattle.values.specs.Bytes.{encoded}

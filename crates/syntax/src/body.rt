@@ -29,10 +29,12 @@ impl<'a> Reader<'a> {
     ) -> Result<Vec<P>, Stop>
         ensures { Reads (λ v. map P.see v.items) self.old self.new result (many (P.found known self.old.bytes.now) count self.old.at) }
     {
+        let mut ahead = self.fork();
         let mut parts = Vec::new(alloc);
         for _ in 0..count {
-            parts.push(P::read(self, alloc, known)?)?;
+            parts.push(P::read(&mut ahead, alloc, known)?)?;
         }
+        self.at = ahead.at;
         Ok(parts)
     }
 
@@ -41,10 +43,11 @@ impl<'a> Reader<'a> {
         ensures { Finds (λ n. n) self.old self.new result (at_most most self.old.bytes.now self.old.at) }
     {
         let at = self.at;
-        let count = self.byte()?;
+        let count = self.peek()?;
         if count > most {
             return Err(Cause::Limit(at));
         }
+        self.at = at + 1;
         Ok(count)
     }
 
@@ -52,10 +55,12 @@ impl<'a> Reader<'a> {
     fn read_stream(&mut self, alloc: Global) -> Result<Record, Stop>
         ensures { Reads entry_of self.old self.new result (body kinds.Stream self.old.bytes.now self.old.at) }
     {
-        let ty = self.read_type()?;
-        let count = self.read_count(MOST_OPENING)?;
-        let opening = self.read_many(alloc, ty, count)?;
-        let body = self.read_expression(alloc, DEPTH)?;
+        let mut ahead = self.fork();
+        let ty = ahead.read_type()?;
+        let count = ahead.read_count(MOST_OPENING)?;
+        let opening = ahead.read_many(alloc, ty, count)?;
+        let body = ahead.read_expression(alloc, DEPTH)?;
+        self.at = ahead.at;
         Ok(Record::Stream(Stream { ty, opening, body }))
     }
 
@@ -63,9 +68,11 @@ impl<'a> Reader<'a> {
     fn read_rule(&mut self, alloc: Global) -> Result<Record, Stop>
         ensures { Reads entry_of self.old self.new result (body kinds.Rule self.old.bytes.now self.old.at) }
     {
-        let count = self.read_count(MOST_ARGUMENTS)?;
-        let guard = self.read_expression(alloc, DEPTH)?;
-        let arguments = self.read_many(alloc, DEPTH, count)?;
+        let mut ahead = self.fork();
+        let count = ahead.read_count(MOST_ARGUMENTS)?;
+        let guard = ahead.read_expression(alloc, DEPTH)?;
+        let arguments = ahead.read_many(alloc, DEPTH, count)?;
+        self.at = ahead.at;
         Ok(Record::Rule(Rule { guard, arguments }))
     }
 
@@ -85,10 +92,12 @@ impl<'a> Reader<'a> {
         ensures value { Reads entry_of self.old self.new result (filled kind self.old.bytes.now self.old.at) }
         ensures end { IfOk result (λ _. self.new.at ≡ length self.old.bytes.now) }
     {
-        let record = self.read_body(alloc, kind)?;
-        if self.at != self.bytes.len() {
-            return Err(Stop::Refused(Cause::Malformed(self.at)));
+        let mut ahead = self.fork();
+        let record = ahead.read_body(alloc, kind)?;
+        if ahead.at != ahead.bytes.len() {
+            return Err(Stop::Refused(Cause::Malformed(ahead.at)));
         }
+        self.at = ahead.at;
         Ok(record)
     }
 }

@@ -14,7 +14,10 @@ impl<'a> Reader<'a> {
     fn read_operand(&mut self, alloc: Global, depth: u8) -> Result<Box<Expr>, Stop>
         ensures { Reads (λ b. exp b.value) self.old self.new result (parse depth self.old.bytes.now self.old.at) }
     {
-        Ok(Box::new(alloc, self.read_expression(alloc, depth)?)?)
+        let mut ahead = self.fork();
+        let operand = Box::new(alloc, ahead.read_expression(alloc, depth)?)?;
+        self.at = ahead.at;
+        Ok(operand)
     }
 
     // The expression that comes next, at most `depth` deep.
@@ -24,42 +27,45 @@ impl<'a> Reader<'a> {
         ensures { Reads exp self.old self.new result (parse depth self.old.bytes.now self.old.at) }
     {
         let at = self.at;
-        let node = self.head(depth)?;
+        let mut ahead = self.fork();
+        let node = ahead.head(depth)?;
         // A byte stands there, so its place fits.
         let place = at as u16;
-        match node {
-            Node::Constant(value) => Ok(Expr::Constant { place, value }),
-            Node::Channel(number) => Ok(Expr::Channel { place, number }),
-            Node::Stream(number, drop) => Ok(Expr::Stream {
+        let expression = match node {
+            Node::Constant(value) => Expr::Constant { place, value },
+            Node::Channel(number) => Expr::Channel { place, number },
+            Node::Stream(number, drop) => Expr::Stream {
                 place,
                 number,
                 drop,
-            }),
+            },
             Node::Unary(op) => {
-                let operand = self.read_operand(alloc, depth - 1)?;
-                Ok(Expr::Unary { place, op, operand })
+                let operand = ahead.read_operand(alloc, depth - 1)?;
+                Expr::Unary { place, op, operand }
             }
             Node::Cast(to) => {
-                let operand = self.read_operand(alloc, depth - 1)?;
-                Ok(Expr::Cast { place, to, operand })
+                let operand = ahead.read_operand(alloc, depth - 1)?;
+                Expr::Cast { place, to, operand }
             }
             Node::Binary(op) => {
-                let left = self.read_expression(alloc, depth - 1)?;
-                let right = self.read_expression(alloc, depth - 1)?;
+                let left = ahead.read_expression(alloc, depth - 1)?;
+                let right = ahead.read_expression(alloc, depth - 1)?;
                 let operands = Box::new(alloc, (left, right))?;
-                Ok(Expr::Binary {
+                Expr::Binary {
                     place,
                     op,
                     operands,
-                })
+                }
             }
             Node::Choose => {
-                let test = self.read_expression(alloc, depth - 1)?;
-                let yes = self.read_expression(alloc, depth - 1)?;
-                let no = self.read_expression(alloc, depth - 1)?;
+                let test = ahead.read_expression(alloc, depth - 1)?;
+                let yes = ahead.read_expression(alloc, depth - 1)?;
+                let no = ahead.read_expression(alloc, depth - 1)?;
                 let operands = Box::new(alloc, (test, yes, no))?;
-                Ok(Expr::Choose { place, operands })
+                Expr::Choose { place, operands }
             }
-        }
+        };
+        self.at = ahead.at;
+        Ok(expression)
     }
 }

@@ -1,7 +1,8 @@
 // Reading the small parts of a table or a trace.
-ghost use Rattle.std.specs.Prelude.{◌≡◌, ◌+◌, ◌≤◌, length, IfOk};
+ghost use Rattle.std.specs.Prelude.{◌≡◌, ◌+◌, ◌≤◌, length, Ok, IfOk, slice_index};
+ghost use Rattle.faults.specs.Causes.{refusal, by_number};
 ghost use Rattle.faults.specs.declared.cause.Cause.TheVariants.{Malformed};
-ghost use Rattle.syntax.specs.Parts.{byte_from, value_from, type_from, span};
+ghost use Rattle.syntax.specs.Parts.{within, byte_from, value_from, type_from, span, lower_first};
 ghost use Rattle.syntax.specs.Readers.{Finds};
 
 use crate::reader::Reader;
@@ -10,6 +11,16 @@ use values::types::Type;
 use values::value::Value;
 
 impl<'a> Reader<'a> {
+    // A reader of its own at the same place, with which to read ahead.
+    pub(crate) fn fork(&self) -> Reader<'a>
+        ensures { (result.bytes.now ≡ self.now.bytes.now) × (result.at ≡ self.now.at) }
+    {
+        Reader {
+            bytes: self.bytes,
+            at: self.at,
+        }
+    }
+
     // A byte is missing, which is refused at the end.
     fn missing(&self) -> Cause
         ensures { result ≡ Malformed (length self.now.bytes.now) }
@@ -17,26 +28,34 @@ impl<'a> Reader<'a> {
         Cause::Malformed(self.bytes.len())
     }
 
-    // The next byte.
+    // The byte that comes next.
+    pub(crate) fn peek(&self) -> Result<u8, Cause>
+        ensures { by_number result
+            ≡ within self.now.bytes.now self.now.at (Ok (slice_index self.now.bytes.now self.now.at)) }
+    {
+        self.bytes.get(self.at).copied().ok_or(self.missing())
+    }
+
+    /// Reads the next byte. A missing one is refused at the end, and the reader stays where it is.
     pub fn byte(&mut self) -> Result<u8, Cause>
         ensures { Finds (λ b. b) self.old self.new result (byte_from self.old.bytes.now self.old.at) }
     {
-        let Some(byte) = self.bytes.get(self.at) else {
-            return Err(self.missing());
-        };
+        let byte = self.peek()?;
         self.at += 1;
-        Ok(*byte)
+        Ok(byte)
     }
 
-    // The type whose code comes next.
+    /// Reads the type whose code comes next. Where none does, the reader stays where it is.
     pub fn read_type(&mut self) -> Result<Type, Cause>
         ensures { Finds (λ t. t) self.old self.new result (type_from self.old.bytes.now self.old.at) }
     {
         let at = self.at;
-        Type::try_from(self.byte()?).map_err(|_| Cause::Malformed(at))
+        let ty = Type::try_from(self.peek()?).map_err(|_| Cause::Malformed(at))?;
+        self.at = at + 1;
+        Ok(ty)
     }
 
-    // The value of a type that comes next.
+    /// Reads the value of a type that comes next. Where none does, the reader stays where it is.
     pub fn read_value(&mut self, ty: Type) -> Result<Value, Cause>
         ensures { Finds (λ v. v) self.old self.new result (value_from self.old.bytes.now ty self.old.at) }
     {
@@ -45,13 +64,16 @@ impl<'a> Reader<'a> {
         if next > self.bytes.len() {
             return Err(self.missing());
         }
+        let value = ty
+            .decode(&self.bytes[at..next])
+            .ok_or(Cause::Malformed(at))?;
         self.at = next;
-        ty.decode(&self.bytes[at..next]).ok_or(Cause::Malformed(at))
+        Ok(value)
     }
 
-    // The place after the record or row that comes next, which begins with its length in two bytes.
+    /// The place after the record or row that comes next, which begins with its length in two bytes.
     pub fn span(&self) -> Result<usize, Cause>
-        ensures value { result ≡ span self.now.bytes.now self.now.at }
+        ensures value { by_number result ≡ span self.now.bytes.now self.now.at }
         ensures inside { IfOk result (λ end. (self.now.at + 2 ≤ end) × (end ≤ length self.now.bytes.now)) }
     {
         let at = self.at;
@@ -65,5 +87,21 @@ impl<'a> Reader<'a> {
             return Err(Cause::Ended(at));
         }
         Ok(end)
+    }
+
+    /// The cause to tell of a record or row that ends at `end` and is refused for `cause`. Where a
+    /// byte is missing at `end`, and what begins there runs past the end of the bytes, both are
+    /// refused at this byte, and the latter, which has the lower number, is told.
+    pub fn lower_first(&self, end: usize, cause: Cause) -> Cause
+        ensures { refusal result ≡ lower_first self.now.bytes.now end (refusal cause) }
+    {
+        if cause.place() != end || end >= self.bytes.len() {
+            return cause;
+        }
+        let next = Reader {
+            bytes: self.bytes,
+            at: end,
+        };
+        next.span().err().unwrap_or(cause)
     }
 }

@@ -22,28 +22,31 @@ impl<'a> Reader<'a> {
         ensures inside { OnOk result ((0 < depth) × (self.old.at < length self.old.bytes.now)) }
     {
         let at = self.at;
-        let op = Op::try_from(self.byte()?).map_err(|_| Cause::Malformed(at))?;
+        let mut ahead = self.fork();
+        let op = Op::try_from(ahead.byte()?).map_err(|_| Cause::Malformed(at))?;
         if depth == 0 {
             return Err(Cause::Limit(at));
         }
-        match op {
+        let node = match op {
             Op::Constant => {
-                let ty = self.read_type()?;
-                Ok(Node::Constant(self.read_value(ty)?))
+                let ty = ahead.read_type()?;
+                Node::Constant(ahead.read_value(ty)?)
             }
-            Op::Channel => Ok(Node::Channel(self.byte()?)),
+            Op::Channel => Node::Channel(ahead.byte()?),
             Op::Stream => {
-                let number = self.byte()?;
-                let drop = self.byte()?;
+                let number = ahead.byte()?;
+                let drop = ahead.byte()?;
                 if drop > MOST_DROP {
                     return Err(Cause::Limit(at + 2));
                 }
-                Ok(Node::Stream(number, drop))
+                Node::Stream(number, drop)
             }
-            Op::Unary(op) => Ok(Node::Unary(op)),
-            Op::Cast => Ok(Node::Cast(self.read_type()?)),
-            Op::Binary(op) => Ok(Node::Binary(op)),
-            Op::Choose => Ok(Node::Choose),
-        }
+            Op::Unary(op) => Node::Unary(op),
+            Op::Cast => Node::Cast(ahead.read_type()?),
+            Op::Binary(op) => Node::Binary(op),
+            Op::Choose => Node::Choose,
+        };
+        self.at = ahead.at;
+        Ok(node)
     }
 }

@@ -1,7 +1,7 @@
 // Bytes, and how far they were read.
 ghost use Rattle.std.specs.Prelude.{◌≤◌, length};
 
-// Bytes to the end of the whole or of one record, and how far they were read.
+/// Bytes to the end of the whole or of one record, and how far they were read.
 #[derive(Drop)]
 pub struct Reader<'a> {
     pub bytes: &'a [u8],

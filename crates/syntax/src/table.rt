@@ -1,5 +1,6 @@
 // A table, from bytes.
 ghost use Rattle.std.specs.Prelude.{◌≡◌, ◌+◌, ◌<◌, ◌≤◌, [], map, length, IfOk, OnOk};
+ghost use Rattle.faults.specs.Causes.{by_number};
 ghost use Rattle.syntax.specs.Entries.{entry_of};
 ghost use Rattle.syntax.specs.Readers.{Reads};
 ghost use Rattle.syntax.specs.Reading.{frame, entry_from, entries, read_table, Yields, Begun};
@@ -21,7 +22,7 @@ impl<'a> Reader<'a> {
     // The kind of the record that comes next, and the place after the record.
     fn frame(&self) -> Result<(Kind, usize), Cause>
         requires { self.now.at < length self.now.bytes.now }
-        ensures value { result ≡ frame self.now.bytes.now self.now.at }
+        ensures value { by_number result ≡ frame self.now.bytes.now self.now.at }
         ensures inside { IfOk result (λ p. (self.now.at + 2 < p.1) × (p.1 ≤ length self.now.bytes.now)) }
     {
         let at = self.at;
@@ -47,7 +48,11 @@ impl<'a> Reader<'a> {
             bytes: &self.bytes[..end],
             at: self.at + 3,
         };
-        let record = inner.read_filled(alloc, kind)?;
+        let record = match inner.read_filled(alloc, kind) {
+            Ok(record) => record,
+            Err(Stop::Refused(cause)) => return Err(Stop::Refused(self.lower_first(end, cause))),
+            Err(Stop::Memory) => return Err(Stop::Memory),
+        };
         self.at = end;
         Ok(record)
     }

@@ -5,6 +5,6 @@ use Rattle.syntax.proofs.reader.Reader.read_many.Given as goal
 
 abbrev pub invariant-loop : goal.invariant-loop
 invariant-loop g l =
-    (l.self.bytes.now ≡ l.fn.self.bytes.now)
+    (l.ahead.bytes.now ≡ l.fn.self.bytes.now)
     × (many (g.P.Part.found l.known l.fn.self.bytes.now) l.count l.fn.self.at
-    ≡ onto (map g.P.Part.see (vec_items l.parts)) (many (g.P.Part.found l.known l.fn.self.bytes.now) (l.count - l.counter) l.self.at))
+    ≡ onto (map g.P.Part.see (vec_items l.parts)) (many (g.P.Part.found l.known l.fn.self.bytes.now) (l.count - l.counter) l.ahead.at))

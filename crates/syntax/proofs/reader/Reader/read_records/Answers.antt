@@ -23,7 +23,7 @@ returns-in_err-record c =
     let p = err_from_is_err_and c.from_residual.result c.from_residual.ensures.1 in
     let at_records = ap (λ l. entry_from (map entry_of l) c.loop-self.self.bytes.now at) c.deref.ensures.value in
     let at_bytes = ap (λ b. entry_from (map entry_of (vec_items c.loop-self.records)) b at) same in
-    let e = subst (Stopped c.in_err-record.field-0.0) (at_records ∙ at_bytes) c.in_err-record.ensures.value in
+    let e = subst (Stopped c.in_err-record.field-0.0) (at_records ∙ at_bytes) c.in_err-record.ensures.value.1 in
     rw (p.1, p.2) (entries_stopped _ bs _ at c.in_err-record.field-0.0 inv.0 more room inv.1 e inv.2)
 
 pub loop-self-preserved : goal.loop-self-preserved
