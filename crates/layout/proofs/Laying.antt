@@ -15,9 +15,7 @@ use Rattle.layout.proofs.Sizes.{rings_are}
 module _ (channels streams : ℕ) (es : List Edge) (fits : Fits channels streams es) (h : List ℕ) (rest : Resting es h) (order : ArrayVec ℕ) (ranked : Ranked order.items (rank h channels) streams) where
   ordered : Ordered channels streams es (leads_of h) order.items
   ordered = record {
-    long = ranked.long;
-    every = ranked.every;
-    stream = ranked.stream;
+    each = ranked.each;
     before = λ e m newest i j li lj ei ej. elim (dec_lt i j) [
       | yes less ↦ less
       | no more ↦ absurd (omega (

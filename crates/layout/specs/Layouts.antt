@@ -1,9 +1,10 @@
 -- What a layout says: leads and ring lengths of all nodes, and an order of the streams. Assumes nothing.
-use Rattle.std.specs.Prelude.{◌≡◌, ℕ, ◌+◌, ◌<◌, List, length, ℤ, pos, slice_index}
+use Rattle.std.specs.Prelude.{◌≡◌, ℕ, ◌+◌, ◌<◌, List, ℤ, pos, slice_index}
 use Rattle.walks.specs.declared.edge.Edge.{Edge}
 use Rattle.walks.specs.Walks.{In, Falling, Lead, Newest, Ring}
 use Rattle.walks.specs.Edges.{graph}
 use Rattle.layout.specs.declared.layout.Layout.{Layout}
+use Rattle.layout.specs.Orders.{EachOnce}
 
 -- the lead of a node
 abbrev pub lead_at : List ℕ → ℕ → ℤ
@@ -11,9 +12,7 @@ lead_at leads s = pos (slice_index leads s)
 
 -- each stream once, and what is read at its newest index comes before its reader; streams are the nodes from `channels` on
 pub record Ordered (channels streams : ℕ) (es : List Edge) (leads order : List ℕ) : Type 0 where
-  pub long : length order ≡ streams
-  pub every : (s : ℕ) → s < streams → (i : ℕ) × (i < streams) × (slice_index order i ≡ s)
-  pub stream : (i : ℕ) → i < streams → slice_index order i < streams
+  pub each : EachOnce streams order
   pub before : (e : Edge) → In e es → Newest (graph es) (lead_at leads) e → (i j : ℕ) → i < streams → j < streams →
       channels + slice_index order i ≡ e.read → channels + slice_index order j ≡ e.reader → i < j
 

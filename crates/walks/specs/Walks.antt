@@ -56,9 +56,9 @@ pub record Lead {R N : Type 0} (G : Graph R N) (s : N) (z : ℤ) : Type 0 where
 abbrev pub reach : {R N : Type 0} → Graph R N → (N → ℤ) → R → ℤ
 reach G lead r = lead (G.reader r) +ℤ G.weight r
 
--- a reference reads the newest value of what it reads
+-- a reference reads the value that is made at the tick at which its reader works
 abbrev pub Newest : {R N : Type 0} → Graph R N → (N → ℤ) → R → Type 0
-Newest G lead r = lead (G.read r) ≡ reach G lead r
+Newest G lead r = lead (G.read r) ≡ lead (G.reader r) +ℤ G.weight r
 
 -- the length of a ring: its record's lead, less the smallest reach among the references to it and its own lead, plus 1
 pub record Ring {R N : Type 0} (G : Graph R N) (lead : N → ℤ) (q : N) (size : ℕ) : Type 0 where
