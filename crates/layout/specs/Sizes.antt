@@ -4,12 +4,12 @@ use Rattle.walks.specs.declared.edge.Edge.{Edge}
 use Rattle.layout.specs.Climbs.{topped}
 
 -- the lead in a height: the weight of the walk that has this steep weight
-abbrev pub lead_of : ℕ → ℕ
-lead_of x = x / 64
+abbrev pub lead_of_height : ℕ → ℕ
+lead_of_height x = x / 64
 
 -- the leads of all nodes by their heights
 abbrev pub leads_of : List ℕ → List ℕ
-leads_of h = map lead_of h
+leads_of h = map lead_of_height h
 
 -- how many values a ring keeps for one edge that reads it, or 0
 abbrev pub span : List ℕ → Edge → ℕ

@@ -2,14 +2,14 @@
 ghost use Rattle.std.specs.Prelude.{◌≡◌};
 ghost use Rattle.walks.specs.Edges.{Bounded};
 ghost use Rattle.layout.specs.Climbs.{Low, topped};
-ghost use Rattle.layout.specs.Sizes.{lead_of, leads_of, span, sizes};
+ghost use Rattle.layout.specs.Sizes.{lead_of_height, leads_of, span, sizes};
 
 use walks::edge::Edge;
 use walks::graph::{Graph, NODES};
 
 // The lead in a height.
-fn lead_of(height: u32) -> u32
-    ensures { result ≡ lead_of height }
+fn lead_of_height(height: u32) -> u32
+    ensures { result ≡ lead_of_height height }
 {
     height / 64
 }
@@ -18,7 +18,7 @@ fn lead_of(height: u32) -> u32
 pub(crate) fn leads_of(heights: &[u32; NODES]) -> [u32; NODES]
     ensures { result ≡ leads_of heights.now }
 {
-    heights.map(lead_of)
+    heights.map(lead_of_height)
 }
 
 // One edge's part in the lengths of rings: what it reads is kept until it has been read.

@@ -5,4 +5,5 @@ mod Placing
 mod Carrying
 mod Measuring
 pub mod Taking
+pub mod Serving
 mod Scheduling

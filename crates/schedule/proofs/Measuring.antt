@@ -13,9 +13,9 @@ use Rattle.walks.specs.Edges as plain
 use Rattle.walks.proofs.Cut.{Last, last}
 use Rattle.walks.proofs.Through.{fit_in}
 use Rattle.schedule.specs.Graphs.{stream, graph}
-use Rattle.schedule.specs.Edges.{Valid, Orderly, node_by, node, id_at, edge, edges}
-use Rattle.schedule.specs.Plans.{ring_count, lead_of_kind, lead_by, Measured}
-use Rattle.schedule.proofs.Placing.{node_one, ring_node, all_fit}
+use Rattle.schedule.specs.Edges.{Valid, Orderly, node_by, node, edge, edges}
+use Rattle.schedule.specs.Plans.{lead_of_kind, lead_by, Measured}
+use Rattle.schedule.proofs.Placing.{node_one, node_low, all_fit}
 use Rattle.schedule.proofs.Carrying.{in_map, from_map, stands, lead_down}
 
 module _ (rs : List Entry) (o : Orderly rs) (leads : List ℕ)
@@ -55,32 +55,32 @@ module _ (rs : List Entry) (o : Orderly rs) (leads : List ℕ)
   reach_same : (r : Reference) → In r (references [] rs) → reach (graph rs) (lead_by lead) r ≡ reach (plain.graph (edges rs)) (λ s. pos (get_or leads s 0)) (edge rs r)
   reach_same r m = ap (λ (z : ℤ). z +ℤ (graph rs).weight r) (lead_same r.reader (stands rs o r m).reader)
 
-  ring_down : (q size : ℕ) → q < ring_count rs → Ring (plain.graph (edges rs)) (λ s. pos (get_or leads s 0)) q size → Ring (graph rs) (lead_by lead) (id_at rs q) size
-  ring_down q size l k =
-      let (valid, at) = ring_node rs q l in
-      let own : lead_by lead (id_at rs q) ≡ pos (get_or leads q 0) = lead_same (id_at rs q) valid ∙ ap (λ (m : ℕ). pos (get_or leads m 0)) at in
-      record {
-        least = k.least;
-        own = omega (arith, ints, k.own);
-        all = λ r m e. omega (arith, ints, k.all (edge rs r) (in_map (edge rs) r (references [] rs) m) (ap (node rs) e ∙ at), reach_same r m);
-        met = elim k.met [
-          | inl e ↦ inl (e ∙ sym own)
-          | inr (e, m, reads, is) ↦
-              let (r, i, same) = from_map (edge rs) e (references [] rs) m in
-              inr (
-                r,
-                i,
-                node_one rs r.read (id_at rs q) (stands rs o r i).read valid (ap (λ (x : Edge). x.read) same ∙ reads ∙ sym at),
-                is ∙ ap (reach (plain.graph (edges rs)) (λ s. pos (get_or leads s 0))) (sym same) ∙ sym (reach_same r i),
-              )
-        ];
-        is = k.is ∙ ap (λ (z : ℤ). (z -ℤ k.least) +ℤ pos 1) (sym own);
-      }
+  ring_down : (id : Id) (size : ℕ) → Valid rs id → Ring (plain.graph (edges rs)) (λ s. pos (get_or leads s 0)) (node rs id) size → Ring (graph rs) (lead_by lead) id size
+  ring_down id size valid k = record {
+    least = k.least;
+    own = omega (arith, ints, k.own, lead_same id valid);
+    all = λ r m e. omega (arith, ints, k.all (edge rs r) (in_map (edge rs) r (references [] rs) m) (ap (node rs) e), reach_same r m);
+    met = elim k.met [
+      | inl e ↦ inl (e ∙ sym (lead_same id valid))
+      | inr (e, m, reads, is) ↦
+          let (r, i, same) = from_map (edge rs) e (references [] rs) m in
+          inr (
+            r,
+            i,
+            node_one rs r.read id (stands rs o r i).read valid (ap (λ (x : Edge). x.read) same ∙ reads),
+            is ∙ ap (reach (plain.graph (edges rs)) (λ s. pos (get_or leads s 0))) (sym same) ∙ sym (reach_same r i),
+          )
+    ];
+    is = k.is ∙ ap (λ (z : ℤ). (z -ℤ k.least) +ℤ pos 1) (sym (lead_same id valid));
+  }
 
-  pub measured : (lengths : List ℕ) → ((q : ℕ) → q < 64 → Ring (plain.graph (edges rs)) (λ s. pos (get_or leads s 0)) q (get_or lengths q 0)) → Measured rs lead (λ q. get_or lengths q 0)
+  leads_down : (s : ℕ) → s < count Stream rs → Lead (graph rs) (stream s) (pos (lead s))
   unfolding node
+  leads_down s l = lead_down rs o (stream s) (pos (lead s)) l
+      (subst (λ (n : ℕ). Lead (plain.graph (edges rs)) (count Channel rs + s) (pos n)) (sym (leads_so s l)) (leading (count Channel rs + s) (omega (arith, o.few Channel, o.few Stream))))
+
+  pub measured : (lengths : List ℕ) → ((q : ℕ) → q < 64 → Ring (plain.graph (edges rs)) (λ s. pos (get_or leads s 0)) q (get_or lengths q 0)) → Measured rs lead (λ id. get_or lengths (node rs id) 0)
   measured lengths rings = record {
-    leads = λ s l. lead_down rs o (stream s) (pos (lead s)) l
-        (subst (λ (n : ℕ). Lead (plain.graph (edges rs)) (count Channel rs + s) (pos n)) (sym (leads_so s l)) (leading (count Channel rs + s) (omega (arith, o.few Channel, o.few Stream))));
-    lengths = λ q l. ring_down q (get_or lengths q 0) l (rings q (omega (arith, o.few Channel, o.few Stream)));
+    leads = leads_down;
+    lengths = λ id h. ring_down id (get_or lengths (node rs id) 0) h.valid (rings (node rs id) (node_low rs o id h.valid));
   }

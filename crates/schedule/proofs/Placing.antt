@@ -1,6 +1,5 @@
 -- Records and their nodes: each node comes from one record, and edges lie within the limits. Assumes nothing.
-use Rattle.std.proofs.Common.{◌≡◌, ℕ, ◌+◌, ◌-◌, ◌<◌, ◌≤◌, List, [], ◌∷◌, map, get_or, sym, refl, ap, ◌∙◌, subst, arith}
-use native.Mathlib.Decide.{dec_lt}
+use Rattle.std.proofs.Common.{◌≡◌, ℕ, ◌+◌, ◌-◌, ◌<◌, ◌≤◌, List, [], ◌∷◌, map, get_or, sym, refl, ap, ◌∙◌, arith}
 use Rattle.std.specs.List.{AllByRecursion}
 use Rattle.std.proofs.ByRecursion.{All-map, All-weaker}
 use Rattle.std.proofs.lemmas.Bool.{lt-ltb, le-ltb, cond-true, cond-false}
@@ -14,7 +13,6 @@ use Rattle.walks.specs.Edges.{Fit, Fits}
 use Rattle.syntax.specs.declared.record.Counts.{Counts}
 use Rattle.schedule.specs.declared.nodes.Nodes.{Nodes}
 use Rattle.schedule.specs.Edges.{Valid, Stands, Orderly, node_by, id_by, node, id_at, described, no_node, Describes, node_in, told_in, edge_by, edge, edges}
-use Rattle.schedule.specs.Plans.{ring_count}
 use Rattle.schedule.proofs.Describing.{openings_few}
 
 -- ---- a node's record
@@ -48,25 +46,16 @@ node_back rs id valid = back_by (count Channel rs) (count Stream rs) (count Rule
 pub node_one : (rs : List Entry) (a b : Id) → Valid rs a → Valid rs b → node rs a ≡ node rs b → a ≡ b
 node_one rs a b va vb e = sym (node_back rs a va) ∙ ap (id_at rs) e ∙ node_back rs b vb
 
--- the record of a ring's number
-pub ring_node : (rs : List Entry) (q : ℕ) → q < ring_count rs → Valid rs (id_at rs q) × (node rs (id_at rs q) ≡ q)
-unfolding id_at node
-ring_node rs q l = elim (dec_lt q (count Channel rs)) [
-  | yes h ↦
-      subst (λ (id : Id). Valid rs id × (node_by (count Channel rs) (count Stream rs) id.kind id.number ≡ q)) (sym (cond-true _ _ _ (lt-ltb q (count Channel rs) h)))
-      (h, refl)
-  | no h ↦
-      subst (λ (id : Id). Valid rs id × (node_by (count Channel rs) (count Stream rs) id.kind id.number ≡ q))
-      (sym (cond-false _ _ _ (le-ltb q (count Channel rs) (omega arith)) ∙ cond-true _ _ _ (lt-ltb q (count Channel rs + count Stream rs) l)))
-      (omega arith, omega arith)
-]
-
 -- ---- nodes and edges within the limits
 module _ (rs : List Entry) (o : Orderly rs) where
   node_kind : (k : Kind) (n : ℕ) → n < count k rs → node_by (count Channel rs) (count Stream rs) k n < 64
   node_kind Channel n l = omega (arith, o.few Channel)
   node_kind Stream n l = omega (arith, o.few Channel, o.few Stream)
   node_kind Rule n l = omega (arith, o.few Channel, o.few Stream, o.few Rule)
+
+  pub node_low : (id : Id) → Valid rs id → node rs id < 64
+  unfolding node
+  node_low id valid = node_kind id.kind id.number valid
 
   reads_kind : (k : Kind) (n : ℕ) → ¬ (k ≡ Channel) → count Channel rs ≤ node_by (count Channel rs) (count Stream rs) k n
   reads_kind Channel n h = absurd (h refl)

@@ -1,8 +1,10 @@
 -- From what is said of edges to what is said of a table's records. Assumes nothing.
-use Rattle.std.proofs.Common.{◌≡◌, ℕ, ◌+◌, ◌<◌, List, [], length, get_or, ℤ, ◌+ℤ◌, Ok, Err, Result, sym, ap, ◌∙◌, subst, inl, inr, arith}
+use Rattle.std.proofs.Common.{◌≡◌, ℕ, ◌+◌, ◌<◌, List, [], length, get_or, ℤ, ◌+ℤ◌, Ok, Err, Result, sym, refl, ap, ◌∙◌, subst, inl, inr, arith}
 use Rattle.faults.specs.declared.cause.Cause.{Cause}
+use Rattle.syntax.specs.declared.record.Kind.{Kind}
 use Rattle.syntax.specs.declared.record.Kind.TheVariants.{Channel, Stream, Rule}
 use Rattle.syntax.specs.Entries.{Entry, count}
+use Rattle.references.specs.declared.reference.Id.{Id}
 use Rattle.references.specs.References.{references}
 use Rattle.walks.specs.declared.edge.Edge.{Edge}
 use Rattle.walks.specs.declared.edge.SheetEntry.{SheetEntry}
@@ -16,15 +18,15 @@ use Rattle.std.proofs.lemmas.List.FromFn.{length-map-range_with_len, get_or-map-
 use Rattle.schedule.specs.declared.plan.Plan.{Plan}
 use Rattle.schedule.specs.declared.plan.Ring.{Ring as Slots}
 use Rattle.schedule.specs.Graphs.{graph, told, IsChannel}
-use Rattle.schedule.specs.Edges.{Orderly, node, id_at, edge, edges}
-use Rattle.schedule.specs.Plans.{ring_count, lead_by, Measured, slots_before, lead_in, length_in, no_ring, ring_in, Ordered, Planned}
+use Rattle.schedule.specs.Edges.{Orderly, node_by, node, edge, edges}
+use Rattle.schedule.specs.Plans.{ring_count, HasRing, lead_by, Measured, slots_before, slots_of, no_ring, ring_in, length_in, ring_of_kind, length_of, lead_in, Ordered, Planned}
 use Rattle.schedule.specs.Placements.{ring_at, Places}
 use Rattle.schedule.specs.Walking.{BlamesWalk, Weighed}
 use Rattle.schedule.specs.Scheduling.{Overfull}
 use Rattle.schedule.proofs.Carrying.{in_map, stands, falls_down, settled_down, closed_down, ahead_down}
 use Rattle.schedule.proofs.Measuring.{lead_same, measured}
 use Rattle.schedule.proofs.Placing.{all_fit}
-use Rattle.schedule.proofs.Taking.{slots_same}
+use Rattle.schedule.proofs.Taking.{slots_same, slots_listed}
 
 module _ (rs : List Entry) (o : Orderly rs) where
   blames_down : (old new : List SheetEntry) (c : Cause) → BlamesWalk (plain.graph (edges rs)) (plain.Channel (count Channel rs)) plain.told old new c →
@@ -32,14 +34,23 @@ module _ (rs : List Entry) (o : Orderly rs) where
   blames_down old new c (inl (k, is, t)) = inl (k, is, closed_down rs o old new k t)
   blames_down old new c (inr (k, is, falls, t)) = inr (k, is, falls_down rs o falls, ahead_down rs o old new k t)
 
+  -- a plan's lengths by record are a layout's by node
+  length_is : (p : Plan) → p.counts.records.channels ≡ count Channel rs → (lengths : List ℕ) → ((q : ℕ) → q < ring_count rs → length_in p q ≡ get_or lengths q 0) →
+      (id : Id) → HasRing rs id → length_of p id ≡ get_or lengths (node rs id) 0
+  unfolding node
+  length_is p channels lengths same id h = go id.kind id.number h.valid h.no_rule
+    where
+      go : (k : Kind) (n : ℕ) → n < count k rs → ¬ (k ≡ Rule) → (ring_of_kind p k n).length ≡ get_or lengths (node_by (count Channel rs) (count Stream rs) k n) 0
+      go Channel n l other = same n (omega arith)
+      go Stream n l other = ap (λ (m : ℕ). length_in p (m + n)) channels ∙ same (count Channel rs + n) (omega arith)
+      go Rule n l other = absurd (other refl)
+
   module _ (l : Layout) (laid : layouts.Laid (count Channel rs) (count Stream rs) (edges rs) l) (settled : Settled (plain.graph (edges rs)) (plain.Channel (count Channel rs))) where
     module _ (lead : ℕ → ℕ) (leads_so : (s : ℕ) → s < count Stream rs → lead s ≡ get_or l.leads (count Channel rs + s) 0) where
       ordered : Ordered rs lead l.order.items
       unfolding node
       ordered = record {
-        long = laid.order.long;
-        every = laid.order.every;
-        within = laid.order.stream;
+        each = laid.order.each;
         before = λ r m newest i j li lj read reader.
             let s = stands rs o r m in
             laid.order.before (edge rs r) (in_map (edge rs) r (references [] rs) m)
@@ -47,7 +58,7 @@ module _ (rs : List Entry) (o : Orderly rs) where
             i j li lj (sym (ap (node rs) read)) (sym (ap (node rs) reader));
       }
 
-      measures : Measured rs lead (λ q. get_or l.lengths q 0)
+      measures : Measured rs lead (λ id. get_or l.lengths (node rs id) 0)
       measures = measured rs o l.leads laid.leads settled lead leads_so l.lengths laid.rings
 
     -- a plan by the layout is a plan of the table
@@ -56,21 +67,22 @@ module _ (rs : List Entry) (o : Orderly rs) where
         let some : channels + streams ≡ ring_count rs = λ i. ec i + es i in
         let rings : (q : ℕ) → q < ring_count rs → ring_in p q ≡ ring_at l.leads l.lengths q = λ q h.
         ap (λ (x : List Slots). get_or x q no_ring) places.rings ∙ get_or-map-range_with_len (ring_at l.leads l.lengths) 0 (channels + streams) q q no_ring (omega arith) (omega arith) in
-        let long : (q : ℕ) → q < ring_count rs → length_in p q ≡ get_or l.lengths q 0 = λ q h. ap (λ r. r.length) (rings q h) in
-        let slots : slots_before (λ j. get_or l.lengths j 0) (channels + streams) ≡ slots_before (length_in p) (ring_count rs) =
-        ap (slots_before (λ j. get_or l.lengths j 0)) some ∙ sym (slots_same (length_in p) (λ j. get_or l.lengths j 0) (ring_count rs) long) in
+        let long : (id : Id) → HasRing rs id → length_of p id ≡ get_or l.lengths (node rs id) 0 = λ id h. length_is p channels_are l.lengths (λ q lt. ap (λ r. r.length) (rings q lt)) id h in
+        let listed : (q : ℕ) → q < ring_count rs → get_or l.lengths q 0 ≡ length_in p q = λ q h. sym (ap (λ r. r.length) (rings q h)) in
+        let slots : slots_before (λ j. get_or l.lengths j 0) (channels + streams) ≡ slots_of rs (length_of p) =
+        ap (slots_before (λ j. get_or l.lengths j 0)) some ∙ slots_same (λ j. get_or l.lengths j 0) (length_in p) (ring_count rs) listed ∙ slots_listed rs p channels_are in
         let leads_so : (s : ℕ) → s < count Stream rs → lead_in p s ≡ get_or l.leads (count Channel rs + s) 0 = λ s h.
         ap (λ n. (ring_in p (n + s)).lead) channels_are ∙ ap (λ r. r.lead) (rings (count Channel rs + s) (omega (arith, h))) in
-        let known : Measured rs (lead_in p) (λ q. get_or l.lengths q 0) = measures (lead_in p) leads_so in
+        let known : Measured rs (lead_in p) (λ id. get_or l.lengths (node rs id) 0) = measures (lead_in p) leads_so in
         record {
           falls = falls_down rs o laid.falls;
           settled = settled_down rs o settled;
           counts = places.counts ∙ (λ i. record { records = record { channels = ec i; streams = es i; rules = er i }; slots = slots i });
           measured = record {
             leads = known.leads;
-            lengths = λ q h. subst (λ (n : ℕ). Ring (graph rs) (lead_by (lead_in p)) (id_at rs q) n) (sym (long q h)) (known.lengths q h);
+            lengths = λ id h. subst (λ (n : ℕ). Ring (graph rs) (lead_by (lead_in p)) id n) (sym (long id h)) (known.lengths id h);
           };
-          bases = λ q h. ap (λ r. r.base) (rings q h) ∙ slots_same (λ j. get_or l.lengths j 0) (length_in p) q (λ j lt. sym (long j (omega arith)));
+          bases = λ q h. ap (λ r. r.base) (rings q h) ∙ slots_same (λ j. get_or l.lengths j 0) (length_in p) q (λ j lt. listed j (omega arith));
           rings = ap length places.rings ∙ length-map-range_with_len (ring_at l.leads l.lengths) 0 (channels + streams) ∙ some;
           order = subst (λ (x : ArrayVec ℕ). Ordered rs (lead_in p) x.items) (sym places.order) (ordered (lead_in p) leads_so);
         }
@@ -105,6 +117,6 @@ pub overfull : (rs : List Entry) (p : Plan) → Planned rs p → 2048 < p.counts
 overfull rs p k many = record {
   falls = k.falls;
   settled = k.settled;
-  takes = record { lead = lead_in p; length = length_in p; measured = k.measured; total = ap (λ c. c.slots) k.counts };
+  takes = record { lead = lead_in p; length = length_of p; measured = k.measured; total = ap (λ c. c.slots) k.counts };
   many = many;
 }

@@ -9,15 +9,21 @@ use Rattle.references.specs.declared.reference.Id.{Id}
 use Rattle.references.specs.declared.reference.Reference.{Reference}
 use Rattle.references.specs.References.{references}
 use Rattle.walks.specs.Walks.{In, Falling, Settled, Lead, Newest, Ring}
+use Rattle.layout.specs.Orders.{EachOnce}
 use Rattle.schedule.specs.declared.plan.Counts.{Counts}
 use Rattle.schedule.specs.declared.plan.Plan.{Plan}
 use Rattle.schedule.specs.declared.plan.Ring.{Ring as Slots}
-use Rattle.schedule.specs.Graphs.{stream, graph, IsChannel}
-use Rattle.schedule.specs.Edges.{id_at}
+use Rattle.schedule.specs.Graphs.{channel, stream, graph, IsChannel}
+use Rattle.schedule.specs.Edges.{Valid}
 
 -- how many rings there are: one for each channel and each stream
 abbrev pub ring_count : List Entry → ℕ
 ring_count rs = count Channel rs + count Stream rs
+
+-- a record that has a ring: a channel or a stream
+pub record HasRing (rs : List Entry) (id : Id) : Type 0 where
+  pub valid : Valid rs id
+  pub no_rule : ¬ (id.kind ≡ Rule)
 
 -- the lead of a record, from the leads of the streams by number: 0 for a channel, and for a rule, which nothing reads
 abbrev pub lead_of_kind : (ℕ → ℕ) → Kind → ℕ → ℤ
@@ -28,23 +34,27 @@ lead_of_kind lead Rule n = pos 0
 abbrev pub lead_by : (ℕ → ℕ) → Id → ℤ
 lead_by lead id = lead_of_kind lead id.kind id.number
 
--- each stream's lead by its number, and each ring's length by its own: the channels' rings first, then the streams'
-pub record Measured (rs : List Entry) (lead length : ℕ → ℕ) : Type 0 where
+-- each stream's lead by its number, and the length of each channel's and each stream's ring
+pub record Measured (rs : List Entry) (lead : ℕ → ℕ) (length : Id → ℕ) : Type 0 where
   pub leads : (s : ℕ) → s < count Stream rs → Lead (graph rs) (stream s) (pos (lead s))
-  pub lengths : (q : ℕ) → q < ring_count rs → Ring (graph rs) (lead_by lead) (id_at rs q) (length q)
+  pub lengths : (id : Id) → HasRing rs id → Ring (graph rs) (lead_by lead) id (length id)
 
--- the slots of the rings before the q-th
+-- the sum of the first q lengths
 abbrev pub slots_before : (ℕ → ℕ) → ℕ → ℕ
 slots_before length q = sum (map length (range_with_len 0 q))
+
+-- the sum of the lengths of all channels' rings and all streams' rings
+abbrev pub slots_of : List Entry → (Id → ℕ) → ℕ
+slots_of rs length = slots_before (λ c. length (channel c)) (count Channel rs) + slots_before (λ s. length (stream s)) (count Stream rs)
 
 -- all rings together take z slots
 pub record Takes (rs : List Entry) (z : ℕ) : Type 0 where
   pub lead : ℕ → ℕ
-  pub length : ℕ → ℕ
+  pub length : Id → ℕ
   pub measured : Measured rs lead length
-  pub total : z ≡ slots_before length (ring_count rs)
+  pub total : z ≡ slots_of rs length
 
--- what a plan has: the rings by number, the length of each, and the lead of a stream by the stream's number
+-- a plan's rings and their lengths, in the order in which they lie
 abbrev pub no_ring : Slots
 no_ring = record { base = 0; length = 0; lead = 0 }
 
@@ -54,14 +64,28 @@ ring_in p q = slice_index_or p.rings.items q no_ring
 abbrev pub length_in : Plan → ℕ → ℕ
 length_in p q = (ring_in p q).length
 
-abbrev pub lead_in : Plan → ℕ → ℕ
-lead_in p s = (ring_in p (p.counts.records.channels + s)).lead
+-- the ring of a record: the channels' lie first, by number, and then the streams'
+abbrev pub ring_of_kind : Plan → Kind → ℕ → Slots
+ring_of_kind p Channel n = ring_in p n
+ring_of_kind p Stream n = ring_in p (p.counts.records.channels + n)
+ring_of_kind p Rule n = no_ring
 
--- the order has each stream once, and a stream that is read at its newest index comes before its reader
+abbrev pub ring_of : Plan → Id → Slots
+ring_of p id = ring_of_kind p id.kind id.number
+
+abbrev pub length_of : Plan → Id → ℕ
+length_of p id = (ring_of p id).length
+
+-- the lead of a stream by its number, and of any record
+abbrev pub lead_in : Plan → ℕ → ℕ
+lead_in p s = (ring_of p (stream s)).lead
+
+abbrev pub lead_of : Plan → Id → ℤ
+lead_of p id = lead_by (lead_in p) id
+
+-- the order has each stream once, and a stream whose newest value is read comes before its reader
 pub record Ordered (rs : List Entry) (lead : ℕ → ℕ) (order : List ℕ) : Type 0 where
-  pub long : length order ≡ count Stream rs
-  pub every : (s : ℕ) → s < count Stream rs → (i : ℕ) × (i < count Stream rs) × (slice_index order i ≡ s)
-  pub within : (i : ℕ) → i < count Stream rs → slice_index order i < count Stream rs
+  pub each : EachOnce (count Stream rs) order
   pub before : (r : Reference) → In r (references [] rs) → Newest (graph rs) (lead_by lead) r → (i j : ℕ) → i < count Stream rs → j < count Stream rs →
       r.read ≡ stream (slice_index order i) → r.reader ≡ stream (slice_index order j) → i < j
 
@@ -73,8 +97,8 @@ counted rs z = record { records = counts_of rs; slots = z }
 pub record Planned (rs : List Entry) (p : Plan) : Type 0 where
   pub falls : Falling (graph rs)
   pub settled : Settled (graph rs) IsChannel
-  pub counts : p.counts ≡ counted rs (slots_before (length_in p) (ring_count rs))
-  pub measured : Measured rs (lead_in p) (length_in p)
+  pub counts : p.counts ≡ counted rs (slots_of rs (length_of p))
+  pub measured : Measured rs (lead_in p) (length_of p)
   pub bases : (q : ℕ) → q < ring_count rs → (ring_in p q).base ≡ slots_before (length_in p) q
   pub rings : length p.rings.items ≡ ring_count rs
   pub order : Ordered rs (lead_in p) p.order.items

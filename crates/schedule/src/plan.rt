@@ -1,8 +1,9 @@
 // The plan of a table's values: where its rings lie, and in what order streams are evaluated.
-ghost use Rattle.std.specs.Prelude.{◌≡◌, ◌+◌, Some, map};
+ghost use Rattle.std.specs.Prelude.{◌≡◌, ◌+◌, Some, map, IfOk};
 ghost use Rattle.syntax.specs.Entries.{entry_of};
 ghost use Rattle.schedule.specs.Placements.{Consecutive, Places};
 ghost use Rattle.schedule.specs.Scheduling.{Scheduled};
+ghost use Rattle.schedule.specs.Serving.{Serves};
 ghost use Rattle.schedule.specs.Lines.{size_text};
 
 use crate::edges::list_edges;
@@ -107,6 +108,7 @@ pub fn make_plan(
     sheet: &mut Sheet<'_>,
 ) -> Result<Plan, Stop>
     ensures scheduled { Scheduled (map entry_of ordered.now.records.now) sheet.old.entries.now sheet.new.entries.now result }
+    ensures serves { IfOk result (λ p. Serves (map entry_of ordered.now.records.now) p) }
     ensures same { sheet.new.entries.ghost_name ≡ sheet.old.entries.ghost_name }
 {
     let edges = list_edges(alloc, ordered)?;
