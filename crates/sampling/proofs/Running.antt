@@ -1,17 +1,16 @@
 -- Latches of a hold, one after another. Assumes nothing.
-use Rattle.std.proofs.Common.{arith, length, ◌≡◌, ℕ, zero, suc, ◌+◌, ◌<◌, cond, List, [], ◌∷◌, ◌++◌, take, drop, Some, None, Option, sym, refl, ap, ◌∙◌, subst}
-use Rattle.std.specs.Option.{option_or}
+use Rattle.std.proofs.Common.{arith, length, ◌≡◌, ℕ, zero, suc, ◌+◌, ◌<◌, ◌&&◌, cond, List, [], ◌∷◌, ◌++◌, All, take, drop, Some, None, Option, sym, refl, ap, ◌∙◌, subst}
 use Rattle.std.proofs.lemmas.Bool.{lt-ltb}
 use Rattle.std.proofs.lemmas.List.{length-append}
-use Rattle.faults.specs.declared.fault.Fault.{Fault}
+use Rattle.std.proofs.lemmas.List.Elements.{All-nil, All-cons, All-head, All-tail}
 use Rattle.values.specs.declared.value.Value.{Value}
 use Rattle.sampling.specs.declared.channel.ChannelRecord.{ChannelRecord}
 use Rattle.sampling.specs.declared.hold.Hold.{Hold}
+use Rattle.sampling.specs.declared.sampler.Sampler.{Ghosts as Sampler}
 use Rattle.sampling.specs.declared.watch.Sighting.{Sighting}
-use Rattle.sampling.specs.Holds.{after, record_at}
-use Rattle.sampling.specs.Rows.{Readings, readings}
-use Rattle.sampling.specs.Watching.{read_below, read_here, part, shown_for, Carries, HoldsBridge, Latched, Run, Watched}
-use Rattle.sampling.specs.Moves.{Kept}
+use Rattle.sampling.specs.Holds.{after, record_at, hold_row}
+use Rattle.sampling.specs.Moves.{Moved, with_below}
+use Rattle.sampling.specs.Watching.{Series, part, shown_for, Carries, Bridging, Latch, LeftAlone, rows_shown, rows_below, GoesThrough, Run, HoldsBridge, RefusalsKeep, seen_below, seen_shown, BridgedBy, Latched, Watched}
 use Rattle.sampling.proofs.Bridging.{shows, over_run, plain}
 
 -- a part of a run is a run from some record on
@@ -25,58 +24,79 @@ front b zero r os = refl
 front b (suc n) r [] = refl
 front b (suc n) r (o ∷ os) = ap (λ t. (after b r o).last ∷ t) (front b n (after b r o) os)
 
--- what is shown is the value below where there is one
-pub or_below : (b : ℕ) (r : ChannelRecord) (o : Option Value) → option_or (after b r o).last o ≡ (after b r o).last
-or_below b r (Some v) = refl
-or_below b r None = none (after b r None).last where
-  none : (x : Option Value) → option_or x None ≡ x
-  none None = refl
-  none (Some v) = refl
+-- what bridges any part bridges a value and what is dark after it
+bridging : (b : ℕ) (below shown : Series) → Carries b below shown → Bridging b below shown
+bridging b below shown c =
+    let z : b + 0 ≡ b = omega arith in
+    record {
+      dark = λ k i m v inside e. c k i m 0 v inside (e ∙ plain v m) ∙ ap (λ n. shown_for n v m) z;
+      carries = c;
+    }
 
-module _ {S : Type 0} (present : S → Readings) (next : S → Option Readings) (refusal : S → Fault) (moves : S → S → Type 0) where
-  watched_more : (h i j : Hold S) (ws : List Sighting) (w : Sighting) → Watched present next refusal moves h ws i → Latched present next refusal moves i w j → Watched present next refusal moves h (ws ++ (w ∷ [])) j
-  watched_more h i j [] w e l = (i, j, e, l, refl)
-  watched_more h i j (x ∷ ws) w p l = (p.0, p.1, p.2, p.3, watched_more p.1 i j ws w p.4 l)
-
-  -- the same, and their count, of a list that is one longer
-  pub watched_push : (h i j : Hold S) (ws vs : List Sighting) (w : Sighting) (n : ℕ) → vs ≡ ws ++ (w ∷ []) → Watched present next refusal moves h ws i × (length ws ≡ n) → Latched present next refusal moves i w j → Watched present next refusal moves h vs j × (length vs ≡ n + 1)
-  watched_push h i j ws vs w n e p l =
-      (subst (λ xs. Watched present next refusal moves h xs j) (sym e) (watched_more h i j ws w p.0 l), ap length e ∙ omega (arith, length-append ws (w ∷ []), p.1))
-
+module _ {S : Type 0} (s : Sampler S) where
   module _ (k : ℕ) (inside : k < 16) where
-    one : (h j : Hold S) (w : Sighting) → Latched present next refusal moves h w j → readings w.shown k ≡ (after h.bridges (record_at h.channels k) (readings w.below k)).last
-    one h j w l =
-        let o = readings w.below k in
-        let kept = l.moved.channels k inside ∙ ap (after h.bridges (record_at h.channels k)) (sym (l.below k)) in
-        l.here k
-        ∙ (λ i. cond (l.moved.latched i) (option_or (cond (lt-ltb k 16 inside i) (kept i).last None) (sym (l.below k) i)) None)
-        ∙ or_below h.bridges (record_at h.channels k) o
+    -- what a latch makes of the channel's record
+    taken : (h : Hold S) (i j : Hold S) → i ≡ with_below h i.below → Moved s i j
+        → record_at j.channels k ≡ after h.bridges (record_at h.channels k) ((s.meaning j.below).present k)
+    taken h i j own m = m.channels k inside ∙ (λ x. after (own x).bridges (record_at (own x).channels k) ((s.meaning j.below).present k))
 
-    module _ (keeps : S → S → Type 0) where
-      pub seen : (h i : Hold S) (ws : List Sighting) → Run present next refusal moves (Kept keeps) h ws i → read_here k ws ≡ shows h.bridges (record_at h.channels k) (read_below k ws)
-      seen h i [] e = refl
-      seen h i (w ∷ ws) p =
-          let j = p.0 in
-          let b = p.2 in
-          let l = p.3 in
-          let o = readings w.below k in
-          let own : after j.bridges (record_at j.channels k) o ≡ after h.bridges (record_at h.channels k) o = λ x. after (b.bridges x) (record_at (b.channels x) k) o in
-          let kept = l.moved.channels k inside ∙ ap (after j.bridges (record_at j.channels k)) (sym (l.below k)) ∙ own in
-          (λ d. (one j p.1 w l ∙ ap (λ (r : ChannelRecord). r.last) own) d ∷ (seen p.1 i ws p.4 ∙ (λ x. shows ((l.moved.bridges ∙ b.bridges) x) (kept x) (read_below k ws))) d)
+    pub seen : (h : Hold S) (ls : List (Latch S)) → LeftAlone h ls → All (GoesThrough s) ls
+        → rows_shown ls k ≡ shows h.bridges (record_at h.channels k) (rows_below s ls k)
+    seen h [] left all = refl
+    seen h (l ∷ ls) left all =
+        let m : Moved s l.old l.new = All-head (GoesThrough s) l ls all in
+        let own = left.0 in
+        let t = taken h l.old l.new own m in
+        let rest = seen l.new ls left.1 (All-tail (GoesThrough s) l ls all) in
+        (λ x. cond (m.latched x && lt-ltb k 16 inside x) (t x).last None ∷ (rest ∙ (λ y. shows ((m.bridges ∙ ap (λ (j : Hold S). j.bridges) own) y) (t y) (rows_below s ls k))) x)
 
-  module _ (keeps : S → S → Type 0) where
-    pub carries : (h i : Hold S) (ws : List Sighting) → Run present next refusal moves (Kept keeps) h ws i → Carries h.bridges (λ k. read_below k ws) (λ k. read_here k ws)
-    carries h i ws p k n m q v inside e =
+  pub bridges : HoldsBridge s
+  bridges h ls run = bridging h.bridges (rows_below s ls) (rows_shown ls) carries where
+    carries : Carries h.bridges (rows_below s ls) (rows_shown ls)
+    carries k n m q v inside e =
         let b = h.bridges in
         let r = record_at h.channels k in
-        let xs = read_below k ws in
-        let s = later b n r xs in
-        ap (part n m) (seen k inside keeps h i ws p) ∙ ap (take (m + 1)) s.1 ∙ front b (m + 1) s.0 (drop n xs) ∙ ap (shows b s.0) e ∙ over_run b v s.0 q m
+        let xs = rows_below s ls k in
+        let t = later b n r xs in
+        ap (part n m) (seen k inside h ls run.0 run.1) ∙ ap (take (m + 1)) t.1 ∙ front b (m + 1) t.0 (drop n xs) ∙ ap (shows b t.0) e ∙ over_run b v t.0 q m
 
-    pub bridges : HoldsBridge present next refusal moves keeps
-    bridges h i ws p =
-        let z : h.bridges + 0 ≡ h.bridges = omega arith in
-        record {
-          dark = λ k n m v inside e. carries h i ws p k n m 0 v inside (e ∙ plain v m) ∙ ap (λ b. shown_for b v m) z;
-          carries = carries h i ws p;
-        }
+  pub refusals_keep : RefusalsKeep s
+  refusals_keep same h i rested = rested.own ∙ ap (with_below h) (same h.below i.below rested.below)
+
+  -- ---- what is seen of a run
+  -- a run of which this was seen
+  pub record SeenOf (h : Hold S) (ws : List Sighting) : Type 0 where
+    pub latches : List (Latch S)
+    pub runs : Run s h latches
+    pub below : (k : ℕ) → rows_below s latches k ≡ seen_below ws k
+    pub shown : (k : ℕ) → rows_shown latches k ≡ seen_shown ws k
+
+  run_of : (h i : Hold S) (ws : List Sighting) → Watched s h ws i → SeenOf h ws
+  run_of h i [] e = record { latches = []; runs = (tt, All-nil (GoesThrough s)); below = λ k. refl; shown = λ k. refl }
+  run_of h i (w ∷ ws) p =
+      let j = p.0 in
+      let l = p.1 in
+      let rest = run_of j i ws p.2 in
+      let first : Latch S = record { old = h; new = j } in
+      record {
+        latches = first ∷ rest.latches;
+        runs = ((refl, rest.runs.0), All-cons (GoesThrough s) first rest.latches l.moved rest.runs.1);
+        below = λ k x. sym (l.below k) x ∷ rest.below k x;
+        shown = λ k x. sym (l.shown k) x ∷ rest.shown k x;
+      }
+
+  pub bridged : (h i : Hold S) (ws : List Sighting) → Watched s h ws i → BridgedBy h ws
+  bridged h i ws p =
+      let r = run_of h i ws p in
+      let b = bridges h r.latches r.runs in
+      subst (λ (shown : Series). Bridging h.bridges (seen_below ws) shown) (λ x k. r.shown k x)
+      (subst (λ (below : Series). Bridging h.bridges below (rows_shown r.latches)) (λ x k. r.below k x) b)
+
+  watched_more : (h i j : Hold S) (ws : List Sighting) (w : Sighting) → Watched s h ws i → Latched s i w j → Watched s h (ws ++ (w ∷ [])) j
+  watched_more h i j [] w e l = (j, subst (λ (x : Hold S). Latched s x w j) e l, refl)
+  watched_more h i j (x ∷ ws) w p l = (p.0, p.1, watched_more p.0 i j ws w p.2 l)
+
+  -- the same, and their count, of a list that is one longer
+  pub watched_push : (h i j : Hold S) (ws vs : List Sighting) (w : Sighting) (n : ℕ) → vs ≡ ws ++ (w ∷ []) → Watched s h ws i × (length ws ≡ n) → Latched s i w j → Watched s h vs j × (length vs ≡ n + 1)
+  watched_push h i j ws vs w n e p l =
+      (subst (λ xs. Watched s h xs j) (sym e) (watched_more h i j ws w p.0 l), ap length e ∙ omega (arith, length-append ws (w ∷ []), p.1))

@@ -1,13 +1,12 @@
 -- How a hold bridges the latches at which the row below has nothing. Assumes nothing.
-use Rattle.std.specs.Prelude.{ℕ, ◌-◌, Bool, cond, List, Some, None, Option, ◌==◌, nat_lt, slice_index_or}
-use Rattle.std.specs.Option.{option_or}
+use Rattle.std.specs.Prelude.{ℕ, ◌-◌, Bool, ◌&&◌, cond, List, Some, None, Option, is_none, ◌==◌, nat_lt, slice_index_or}
 use Rattle.faults.specs.declared.cause.Cause.TheVariants.{Dark}
-use Rattle.faults.specs.declared.fault.Fault.{Fault}
 use Rattle.faults.specs.declared.fault.Layer.TheVariants as layer
 use Rattle.faults.specs.declared.upper.UpperFault.{UpperFault}
 use Rattle.faults.specs.Faults.{from_below, its_own}
 use Rattle.values.specs.declared.value.Value.{Value}
 use Rattle.sampling.specs.declared.channel.ChannelRecord.{ChannelRecord}
+use Rattle.sampling.specs.Meanings.{Meaning}
 use Rattle.sampling.specs.Rows.{Readings}
 
 -- of a channel that has not been read yet
@@ -27,10 +26,10 @@ record_at rs k = slice_index_or rs k unread
 abbrev pub bridged : ℕ → List ChannelRecord → Readings → Readings
 bridged bridges rs below k = cond (nat_lt k 16) (after bridges (record_at rs k) (below k)).last None
 
--- what a hold reads: nothing before its first latch; then what its records show, and where they show nothing, what is read below
-abbrev pub hold_row : Bool → List ChannelRecord → Readings → Readings
-hold_row latched rs below k = cond latched (option_or (cond (nat_lt k 16) (record_at rs k).last None) (below k)) None
+-- what a hold reads: nothing before its first latch, and then what its own records show
+abbrev pub hold_row : Bool → List ChannelRecord → Readings
+hold_row latched rs k = cond (latched && nat_lt k 16) (record_at rs k).last None
 
--- the fault of a dark read: the hold's own before its first latch, then the one from below
-abbrev pub hold_dark : Bool → Fault → ℕ → UpperFault
-hold_dark latched below k = cond latched (from_below below) (its_own layer.Hold (Dark k))
+-- the fault of a dark read: after the first latch the one from below; before it, or where there is a value below after all, the hold's own
+abbrev pub hold_dark : Bool → Meaning → ℕ → UpperFault
+hold_dark latched below k = cond (latched && is_none (below.present k)) (from_below (below.dark k)) (its_own layer.Hold (Dark k))

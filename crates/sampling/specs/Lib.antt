@@ -1,5 +1,6 @@
 pub mod Short
 pub mod Rows
+pub mod Meanings
 pub mod Panels
 pub mod Holds
 pub mod Moves

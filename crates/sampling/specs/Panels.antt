@@ -1,10 +1,22 @@
--- What the host's calls do to a panel. Assumes nothing.
-use Rattle.std.specs.Prelude.{ℕ, cond, Ok, Err, Result, nat_lt}
-use Rattle.faults.specs.declared.cause.Cause.TheVariants.{Limit}
+-- A panel as a sampler, and what the host's calls do to it. Assumes nothing.
+use Rattle.std.specs.Prelude.{ℕ, cond, Some, Ok, Err, Result, nat_lt}
+use Rattle.faults.specs.declared.cause.Cause.TheVariants.{Limit, NoRow, Dark}
 use Rattle.faults.specs.declared.fault.Fault.{Fault}
 use Rattle.faults.specs.declared.fault.Layer.TheVariants as layer
 use Rattle.faults.specs.Faults.{made_by}
+use Rattle.sampling.specs.declared.panel.Panel.{Panel}
+use Rattle.sampling.specs.Meanings.{Meaning}
+use Rattle.sampling.specs.Rows.{readings}
 
 -- a channel above 15 is refused, at its number
 abbrev pub set : ℕ → Result (Unit {0}) Fault
 set k = cond (nat_lt k 16) (Ok tt) (Err (made_by layer.Panel (Limit k)))
+
+-- a panel always has a next row, so that its latch is never refused
+abbrev pub panel_meaning : Panel → Meaning
+panel_meaning p = record {
+  present = readings p.present;
+  next = Some (readings p.next);
+  refusal = made_by layer.Panel (NoRow 0);
+  dark = λ k. made_by layer.Panel (Dark k);
+}

@@ -1,5 +1,5 @@
--- What a row reads, and what a latch answers. Assumes nothing.
-use Rattle.std.specs.Prelude.{ℕ, cond, Some, None, Ok, Err, Option, Result, ◌==◌, nat_lt, slice_index_or}
+-- What a row reads. Assumes nothing.
+use Rattle.std.specs.Prelude.{ℕ, cond, None, Option, ◌==◌, nat_lt, slice_index_or}
 use Rattle.values.specs.declared.value.Value.{Value}
 use Rattle.sampling.specs.declared.row.Row.{Row}
 
@@ -22,8 +22,3 @@ updated s k o j = cond (j == k) o (s j)
 -- the same where a row has the channel
 abbrev pub placed : Readings → ℕ → Option Value → Readings
 placed s k o = cond (nat_lt k 16) (updated s k o) s
-
--- a latch goes through where there is a next row
-abbrev pub latched : {E : Type 0} → Option Readings → E → Result (Unit {0}) E
-latched (Some next) fault = Ok tt
-latched None fault = Err fault

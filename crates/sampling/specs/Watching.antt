@@ -1,5 +1,5 @@
 -- Latches of a hold, one after another, and what is seen of them. Assumes nothing.
-use Rattle.std.specs.Prelude.{◌≡◌, ℕ, ◌+◌, ◌-◌, ◌<◌, ◌≤◌, min, List, [], ◌∷◌, ◌++◌, length, map, take, drop, replicate, Some, None, Ok, Err, Option, Result, Vec}
+use Rattle.std.specs.Prelude.{◌≡◌, ℕ, ◌+◌, ◌-◌, ◌<◌, ◌≤◌, min, List, [], ◌∷◌, ◌++◌, All, length, map, take, drop, replicate, Some, None, Ok, Err, Option, Result, Vec}
 use Rattle.std.specs.declared.alloc.Global.{Global}
 use Rattle.faults.specs.declared.fault.Fault.{Fault}
 use Rattle.faults.specs.declared.stop.Stop.{Stop}
@@ -7,20 +7,19 @@ use Rattle.faults.specs.declared.stop.Stop.TheVariants.{Refused, Memory}
 use Rattle.faults.specs.Faults.{handed_on}
 use Rattle.values.specs.declared.value.Value.{Value}
 use Rattle.sampling.specs.declared.hold.Hold.{Hold}
+use Rattle.sampling.specs.declared.sampler.Sampler.{Ghosts as Sampler}
 use Rattle.sampling.specs.declared.watch.Sighting.{Sighting}
 use Rattle.sampling.specs.Holds.{hold_row}
-use Rattle.sampling.specs.Moves.{Moved, Kept, present_row, next_row, refused_latch}
-use Rattle.sampling.specs.Rows.{Readings, readings}
+use Rattle.sampling.specs.Meanings.{SameRows}
+use Rattle.sampling.specs.Moves.{KeepsOwn, Moved, Rested, over}
+use Rattle.sampling.specs.Rows.{readings}
 
--- ---- what was seen of a channel
--- what it read below, and what the hold showed, latch by latch
-abbrev pub read_below : ℕ → List Sighting → List (Option Value)
-read_below k ws = map (λ w. readings w.below k) ws
+-- ---- what is read at latches running
+-- what each channel reads, latch by latch
+abbrev pub Series : Type 0
+Series = ℕ → List (Option Value)
 
-abbrev pub read_here : ℕ → List Sighting → List (Option Value)
-read_here k ws = map (λ w. readings w.shown k) ws
-
--- of these, the i-th and the m after it
+-- of a channel's readings, the i-th and the m after it
 abbrev pub part : ℕ → ℕ → List (Option Value) → List (Option Value)
 part i m os = take (m + 1) (drop i os)
 
@@ -28,62 +27,121 @@ part i m os = take (m + 1) (drop i os)
 abbrev pub shown_for : ℕ → Value → ℕ → List (Option Value)
 shown_for n v m = Some v ∷ (replicate (min m n) (Some v) ++ replicate (m - n) None)
 
--- wherever a channel read a value below and then nothing at m latches, the hold showed the value at min m H of these and then nothing
-abbrev pub Bridges : ℕ → List Sighting → Type 0
-Bridges bridges ws = (k i m : ℕ) (v : Value) → k < 16 → part i m (read_below k ws) ≡ Some v ∷ replicate m None → part i m (read_here k ws) ≡ shown_for bridges v m
+-- wherever a channel reads a value below and then nothing at m latches, the value is shown at min m H of these and then nothing
+abbrev pub Bridges : ℕ → Series → Series → Type 0
+Bridges bridges below shown = (k i m : ℕ) (v : Value) → k < 16 →
+    part i m (below k) ≡ Some v ∷ replicate m None → part i m (shown k) ≡ shown_for bridges v m
 
--- wherever the one shows a value at n latches more at most, the other shows it at as many and H
-abbrev pub Carries : ℕ → (ℕ → List (Option Value)) → (ℕ → List (Option Value)) → Type 0
-Carries bridges one other = (k i m n : ℕ) (v : Value) → k < 16 → part i m (one k) ≡ shown_for n v m → part i m (other k) ≡ shown_for (bridges + n) v m
+-- wherever a channel reads a value below at n latches more at most, it is shown at as many and H
+abbrev pub Carries : ℕ → Series → Series → Type 0
+Carries bridges below shown = (k i m n : ℕ) (v : Value) → k < 16 →
+    part i m (below k) ≡ shown_for n v m → part i m (shown k) ≡ shown_for (bridges + n) v m
 
--- ---- the latches
-module _ {S : Type 0} (present : S → Readings) (next : S → Option Readings) (refusal : S → Fault) (moves : S → S → Type 0) where
+-- what is shown bridges so many latches of what is read below
+pub record Bridging (bridges : ℕ) (below shown : Series) : Type 0 where
+  pub dark : Bridges bridges below shown
+  pub carries : Carries bridges below shown
+
+-- ---- latches that go through
+-- a latch of a hold: the hold before it and after it
+pub record Latch (S : Type 0) : Type 0 where
+  pub old : Hold S
+  pub new : Hold S
+
+-- from h on the hold's own records are left alone between these latches, whatever becomes of what lies below it
+abbrev pub LeftAlone : {S : Type 0} → Hold S → List (Latch S) → Type 0
+LeftAlone h [] = Unit {0}
+LeftAlone h (l ∷ ls) = KeepsOwn h l.old × LeftAlone l.new ls
+
+-- the row of the hold after each latch
+abbrev pub rows_shown : {S : Type 0} → List (Latch S) → Series
+rows_shown ls k = map (λ l. hold_row l.new.latched l.new.channels k) ls
+
+-- latches of a hold over a hold, as latches of the lower one
+abbrev pub lower : {S : Type 0} → List (Latch (Hold S)) → List (Latch S)
+lower ls = map (λ l. record { old = l.old.below; new = l.new.below }) ls
+
+module _ {S : Type 0} (s : Sampler S) where
+  -- the row below after each latch
+  abbrev pub rows_below : List (Latch S) → Series
+  rows_below ls k = map (λ l. (s.meaning l.new.below).present k) ls
+
+  -- one that goes through
+  abbrev pub GoesThrough : Latch S → Type 0
+  GoesThrough l = Moved s l.old l.new
+
+  -- latches of one hold from h on, each of which goes through; what its host does below in between is left open
+  abbrev pub Run : Hold S → List (Latch S) → Type 0
+  Run h ls = LeftAlone h ls × All GoesThrough ls
+
+  -- ---- the laws over runs
+  -- every hold bridges its H latches, over whatever reads below and however a host handles that between the latches:
+  -- its own records no host can touch
+  abbrev pub HoldsBridge : Type 0
+  HoldsBridge = (h : Hold S) (ls : List (Latch S)) → Run h ls → Bridging h.bridges (rows_below ls) (rows_shown ls)
+
+  -- a run of a hold over a hold is a run of the lower one, which shows what the upper one reads below;
+  -- and over what the lower one reads, the upper one bridges as many latches as both together
+  pub record Stacked (h : Hold (Hold S)) (ls : List (Latch (Hold S))) : Type 0 where
+    pub runs : Run h.below (lower ls)
+    pub reads : (k : ℕ) → rows_shown (lower ls) k ≡ map (λ l. ((over s).meaning l.new.below).present k) ls
+    pub carries : Carries (h.bridges + h.below.bridges) (rows_below (lower ls)) (rows_shown ls)
+
+-- that is so wherever hosts leave the lower hold's own records alone between the latches, whatever else they do below: a host that latches
+-- a lower hold by itself does not. The lower hold may stand over a hold again, and so on: a pile whose lower holds are left alone bridges the sum
+abbrev pub PilesBridge : {S : Type 0} → Sampler S → Type 0
+PilesBridge {S} s = (h : Hold (Hold S)) (ls : List (Latch (Hold S))) →
+    Run (over s) h ls → LeftAlone h.below (lower ls) → Stacked s h ls
+
+-- where a refused latch leaves what lies below as it was, it leaves the hold as it was, and so a whole pile
+abbrev pub RefusalsKeep : {S : Type 0} → Sampler S → Type 0
+RefusalsKeep {S} s = ((a b : S) → s.rests a b → b ≡ a) → (h i : Hold S) → Rested s h i → i ≡ h
+
+-- the laws of holds over any sampler
+pub record HoldLaws {S : Type 0} (s : Sampler S) : Type 0 where
+  pub bridge : HoldsBridge s
+  pub piles : PilesBridge s
+  pub refusals : RefusalsKeep s
+
+-- ---- what is seen
+-- what was seen of each channel below, and of the hold's own row
+abbrev pub seen_below : List Sighting → Series
+seen_below ws k = map (λ w. readings w.below k) ws
+
+abbrev pub seen_shown : List Sighting → Series
+seen_shown ws k = map (λ w. readings w.shown k) ws
+
+-- what was seen of a hold bridges as many latches as it does
+abbrev pub BridgedBy : {S : Type 0} → Hold S → List Sighting → Type 0
+BridgedBy h ws = Bridging h.bridges (seen_below ws) (seen_shown ws)
+
+module _ {S : Type 0} (s : Sampler S) where
   -- one latch from h to i, and what was seen then
   pub record Latched (h : Hold S) (w : Sighting) (i : Hold S) : Type 0 where
-    pub moved : Moved present next moves h i
-    pub below : (k : ℕ) → readings w.below k ≡ present i.below k
-    pub here : (k : ℕ) → readings w.shown k ≡ hold_row i.latched i.channels (present i.below) k
+    pub moved : Moved s h i
+    pub below : (k : ℕ) → readings w.below k ≡ (s.meaning i.below).present k
+    pub shown : (k : ℕ) → readings w.shown k ≡ hold_row i.latched i.channels k
 
-  -- one latch, and what was seen then; a latch that is refused changes nothing
+  -- a latch from h to i that was refused, since there is no next row below: both rows are kept, and so is what a refusal leaves
+  pub record Refuses (h : Hold S) (f : Fault) (i : Hold S) : Type 0 where
+    pub none : (s.meaning h.below).next ≡ None
+    pub fault : f ≡ handed_on (s.meaning h.below).refusal
+    pub kept : SameRows ((over s).meaning h) ((over s).meaning i)
+    pub rested : Rested s h i
+
+  -- one latch, and what was seen then
   abbrev pub Sees : Hold S → Hold S → Result Sighting Fault → Type 0
   Sees h i (Ok w) = Latched h w i
-  Sees h i (Err f) = (i ≡ h) × (next h.below ≡ None) × (f ≡ handed_on (refusal h.below))
+  Sees h i (Err f) = Refuses h f i
 
-  -- a latch for each of these, one after another; `between` says what may become of the hold before, between and after them
-  abbrev pub Run : (Hold S → Hold S → Type 0) → Hold S → List Sighting → Hold S → Type 0
-  Run between h [] i = between h i
-  Run between h (w ∷ ws) i = (j : Hold S) × (k : Hold S) × between h j × Latched j w k × Run between k ws i
-
-  -- the same where nothing happens but these latches
+  -- these were seen, a latch for each, one after another, and nothing else happened
   abbrev pub Watched : Hold S → List Sighting → Hold S → Type 0
-  Watched = Run (λ h i. i ≡ h)
+  Watched h [] i = i ≡ h
+  Watched h (w ∷ ws) i = (j : Hold S) × Latched h w j × Watched j ws i
 
   -- as many as were asked for; or fewer, where the next one is refused or memory fails
   abbrev pub Ends : Hold S → Hold S → ℕ → Result (Vec Sighting Global) (Stop Fault) → Type 0
   Ends h i latches (Ok seen) = (length seen.items ≡ latches) × Watched h seen.items i
-  Ends h i latches (Err (Refused f)) = (ws : List Sighting) × (length ws < latches) × Watched h ws i × (next i.below ≡ None) × (f ≡ handed_on (refusal i.below))
+  Ends h i latches (Err (Refused f)) =
+      (ws : List Sighting) × (j : Hold S) × (length ws < latches) × Watched h ws j × Refuses j f i
   Ends h i latches (Err Memory) = (ws : List Sighting) × (length ws ≤ latches) × Watched h ws i
-
--- ---- the laws over runs
--- every run of a hold bridges, over whatever reads below and however its host handles that between the latches
-pub record Bridging (bridges : ℕ) (ws : List Sighting) : Type 0 where
-  pub dark : Bridges bridges ws
-  pub carries : Carries bridges (λ k. read_below k ws) (λ k. read_here k ws)
-
-abbrev pub HoldsBridge : {S : Type 0} → (S → Readings) → (S → Option Readings) → (S → Fault) → (S → S → Type 0) → (S → S → Type 0) → Type 0
-HoldsBridge {S} present next refusal moves keeps =
-    (h i : Hold S) (ws : List Sighting) → Run present next refusal moves (Kept keeps) h ws i → Bridging h.bridges ws
-
--- a run of a hold over a hold is a run of the lower one, which shows what the upper one reads below; and over what the lower one reads
--- the upper one bridges as many latches as both together. What lies below may be a hold again, and so on: a pile bridges the sum
-pub record Stacked {S : Type 0} (present : S → Readings) (next : S → Option Readings) (refusal : S → Fault) (moves keeps : S → S → Type 0) (h i : Hold (Hold S)) (ws : List Sighting) : Type 0 where
-  pub lower : List Sighting
-  pub runs : Run present next refusal moves (Kept keeps) h.below lower i.below
-  pub reads : (k : ℕ) → read_here k lower ≡ read_below k ws
-  pub carries : Carries (h.bridges + h.below.bridges) (λ k. read_below k lower) (λ k. read_here k ws)
-
-abbrev pub PilesBridge : {S : Type 0} → (S → Readings) → (S → Option Readings) → (S → Fault) → (S → S → Type 0) → (S → S → Type 0) → Type 0
-PilesBridge {S} present next refusal moves keeps =
-    (h i : Hold (Hold S)) (ws : List Sighting)
-    → Run (present_row present next refusal) (next_row present next refusal) (refused_latch present next refusal) (Moved present next moves) (Kept (Kept keeps)) h ws i
-    → Stacked present next refusal moves keeps h i ws

@@ -1,12 +1,12 @@
 // The hold: stands over any sampler, and bridges the latches at which a channel below has nothing.
-ghost use Rattle.std.specs.Prelude.{◌≡◌, ◌<◌, ℕ, true, false, is_ok, unwrap_or, ok_or, refl};
+ghost use Rattle.std.specs.Prelude.{◌≡◌, ◌<◌, ℕ, true, false, is_ok, unwrap_or, ok_or};
 ghost use Rattle.sampling.specs.Holds.{unread, after, record_at, hold_row, hold_dark};
 ghost use Rattle.faults.specs.Faults.{from_below};
 ghost use Rattle.std.specs.Borrow.{Lends, sem};
 ghost use Rattle.sampling.specs.contracts.hold.Hold.{the_row};
-ghost use Rattle.sampling.specs.Moves.{Moved, Kept, present_row, next_row, refused_latch, with_below};
+ghost use Rattle.sampling.specs.Meanings.{latch_answer, row_after};
+ghost use Rattle.sampling.specs.Moves.{Moved, Rested, hold_meaning, with_below};
 ghost use Rattle.sampling.specs.Short.{past_hold, dark_hold};
-ghost use Rattle.sampling.specs.Rows.{latched};
 
 use crate::channel::ChannelRecord;
 use crate::row::CHANNELS;
@@ -53,7 +53,7 @@ impl<S: Sampler> Hold<S> {
         &self.below
     }
 
-    // The sampler below, for its host. A latch of it alone is seen where the hold shows nothing of its own.
+    // The sampler below, for its host. The hold takes note of a latch of it alone only at its own next latch.
     pub fn get_mut(&mut self) -> &mut S
         ensures* writes_back { sem 𝓛 (Lends (the_row S.row) S.row self.entry result (with_below self.old)) }
         ensures value { result.now ≡ self.old.below }
@@ -74,7 +74,7 @@ impl<S: Sampler> Hold<S> {
         ensures below { self.new.below ≡ self.old.below }
         ensures bridges { self.new.bridges ≡ self.old.bridges }
         ensures latched { self.new.latched ≡ self.old.latched }
-        ensures channels { (k : ℕ) → k < 16 → record_at self.new.channels k ≡ after self.old.bridges (record_at self.old.channels k) (S.present self.old.below k) }
+        ensures channels { (k : ℕ) → k < 16 → record_at self.new.channels k ≡ after self.old.bridges (record_at self.old.channels k) ((S.meaning self.old.below).present k) }
     {
         for channel in 0..CHANNELS {
             let reading = self.below.read(channel).ok();
@@ -85,10 +85,10 @@ impl<S: Sampler> Hold<S> {
 
     // Latches below, and then takes the row there.
     fn step(&mut self) -> Result<(), HoldFault>
-        ensures answer { result ≡ latched (S.next self.old.below) (from_below (S.refusal self.old.below)) }
-        ensures below { S.present self.new.below ≡ unwrap_or (S.next self.old.below) (S.present self.old.below) }
-        ensures moved { is_ok result ≡ true → Moved S.present S.next S.moves self.old self.new }
-        ensures kept { is_ok result ≡ false → self.new ≡ self.old }
+        ensures answer { result ≡ latch_answer (S.meaning self.old.below).next (from_below (S.meaning self.old.below).refusal) }
+        ensures below { (S.meaning self.new.below).present ≡ row_after (S.meaning self.old.below) }
+        ensures moved { is_ok result ≡ true → Moved S.Sampler self.old self.new }
+        ensures rested { is_ok result ≡ false → Rested S.Sampler self.old self.new }
     {
         self.below.latch()?;
         self.take_row();
@@ -96,41 +96,35 @@ impl<S: Sampler> Hold<S> {
         Ok(())
     }
 
-    // What a channel reads; at a dark one, the fault from below.
+    // What a channel reads: what its record shows. Elsewhere it is dark below too, unless the host has latched there alone.
     fn look(&self, channel: u8) -> Result<Value, HoldFault>
-        ensures { result ≡ ok_or (hold_row self.now.latched self.now.channels (S.present self.now.below) channel) (hold_dark self.now.latched (S.dark self.now.below channel) channel) }
+        ensures { result ≡ ok_or (hold_row self.now.latched self.now.channels channel) (hold_dark self.now.latched (S.meaning self.now.below) channel) }
     {
+        let dark = HoldFault::new(Layer::Hold, Cause::Dark(channel));
         if !self.latched {
-            return Err(HoldFault::new(Layer::Hold, Cause::Dark(channel)));
+            return Err(dark);
         }
         let record = self.channels.get(usize::from(channel));
-        match record.and_then(ChannelRecord::shown) {
-            Some(value) => Ok(value),
-            None => Ok(self.below.read(channel)?),
+        if let Some(value) = record.and_then(ChannelRecord::shown) {
+            return Ok(value);
         }
+        self.below.read(channel)?;
+        Err(dark)
     }
 }
 
 impl<S: Sampler> Sampler for Hold<S> {
-    ghost present = { present_row S.present S.next S.refusal };
+    ghost meaning = { λ h. hold_meaning (S.meaning h.below) h };
 
-    ghost next = { next_row S.present S.next S.refusal };
+    ghost moves = { Moved S.Sampler };
 
-    ghost refusal = { refused_latch S.present S.next S.refusal };
+    ghost rests = { Rested S.Sampler };
 
-    ghost dark = { λ h k. (hold_dark h.latched (S.dark h.below k) k).fault };
-
-    ghost moves = { Moved S.present S.next S.moves };
-
-    ghost keeps = { Kept S.keeps };
-
-    ghost short = { λ h. past_hold h.latched h.channels (S.present h.below) (S.short h.below) };
+    ghost short = { λ h. past_hold h.latched h.channels };
 
     ghost refuses = { λ h. S.refuses h.below };
 
-    ghost darkens = { λ h. dark_hold h.latched (S.dark h.below) (S.darkens h.below) };
-
-    ghost stays = { λ h. record { bridges = refl; latched = refl; channels = refl; below = S.stays h.below } };
+    ghost darkens = { λ h. dark_hold h.latched (S.meaning h.below) (S.darkens h.below) };
 
     fn latch(&mut self) -> Result<(), Fault> {
         self.step()?;

@@ -1,9 +1,6 @@
 // The panel: a host sets the next row channel by channel.
 ghost use Rattle.std.specs.Prelude.{◌≡◌, Some, None, refl};
-ghost use Rattle.faults.specs.declared.cause.Cause.TheVariants.{NoRow, Dark};
-ghost use Rattle.faults.specs.declared.fault.Layer.TheVariants as layer;
-ghost use Rattle.faults.specs.Faults.{made_by};
-ghost use Rattle.sampling.specs.Panels.{set};
+ghost use Rattle.sampling.specs.Panels.{set, panel_meaning};
 ghost use Rattle.sampling.specs.Rows.{readings, nothing, placed};
 ghost use Rattle.sampling.specs.Short.{past};
 
@@ -66,27 +63,18 @@ impl Panel {
 }
 
 impl Sampler for Panel {
-    ghost present = { λ p. readings p.present };
-
-    ghost next = { λ p. Some (readings p.next) };
-
-    // never met: a panel has a next row
-    ghost refusal = { λ p. made_by layer.Panel (NoRow 0) };
-
-    ghost dark = { λ p k. made_by layer.Panel (Dark k) };
+    ghost meaning = { panel_meaning };
 
     ghost moves = { λ p q. q.next ≡ p.next };
 
-    // a host may set it as it likes
-    ghost keeps = { λ p q. Unit {0} };
+    // never met: a panel's latch is not refused
+    ghost rests = { λ p q. q ≡ p };
 
     ghost short = { λ p k h. past p.present k h };
 
     ghost refuses = { λ p. refl };
 
     ghost darkens = { λ p k. (refl, refl) };
-
-    ghost stays = { λ p. tt };
 
     fn latch(&mut self) -> Result<(), Fault> {
         self.present = self.next;

@@ -1,7 +1,7 @@
 // Latches running, and what a hold made of them.
-ghost use Rattle.std.specs.Prelude.{◌≡◌, ℕ};
+ghost use Rattle.std.specs.Prelude.{◌≡◌, ℕ, IfOk};
 ghost use Rattle.sampling.specs.Rows.{readings};
-ghost use Rattle.sampling.specs.Watching.{Sees, Ends, HoldsBridge, PilesBridge};
+ghost use Rattle.sampling.specs.Watching.{Sees, Ends, BridgedBy, HoldLaws};
 
 use crate::hold::Hold;
 use crate::row::{CHANNELS, Row};
@@ -19,7 +19,7 @@ pub struct Sighting {
 
 // The present row of a sampler, all sixteen channels of it.
 pub fn read_row<S: Sampler>(sampler: &S) -> Row
-    ensures { (k : ℕ) → readings result k ≡ S.present sampler.now k }
+    ensures { (k : ℕ) → readings result k ≡ (S.meaning sampler.now).present k }
 {
     let mut row = Row::empty();
     for channel in 0..CHANNELS {
@@ -30,7 +30,7 @@ pub fn read_row<S: Sampler>(sampler: &S) -> Row
 
 // Latches once, and gives what is seen then.
 fn see<S: Sampler>(hold: &mut Hold<S>) -> Result<Sighting, Fault>
-    ensures { Sees S.present S.next S.refusal S.moves hold.old hold.new result }
+    ensures { Sees S.Sampler hold.old hold.new result }
 {
     hold.latch()?;
     let below = read_row(hold.get_ref());
@@ -44,9 +44,9 @@ pub fn watch<S: Sampler>(
     hold: &mut Hold<S>,
     latches: usize,
 ) -> Result<Vec<Sighting>, Stop<Fault>>
-    ensures run { Ends S.present S.next S.refusal S.moves hold.old hold.new latches result }
-    ensures law { HoldsBridge S.present S.next S.refusal S.moves S.keeps }
-    ensures piles { PilesBridge S.present S.next S.refusal S.moves S.keeps }
+    ensures run { Ends S.Sampler hold.old hold.new latches result }
+    ensures bridged { IfOk result (λ seen. BridgedBy hold.old seen.items) }
+    ensures laws { HoldLaws S.Sampler }
 {
     let mut seen = Vec::new(alloc);
     for _ in 0..latches {

@@ -1,16 +1,18 @@
 -- What opening a trace answers, and what a latch gives. Assumes nothing.
 use Rattle.std.specs.Prelude.{◌≡◌, ℕ, ◌+◌, ◌<◌, ◌≤◌, true, is_ok, List, [], ◌∷◌, length, Some, None, Ok, Err, Option, Result}
+use Rattle.faults.specs.declared.cause.Cause.TheVariants.{NoRow, Dark}
 use Rattle.faults.specs.declared.fault.Fault.{Fault}
 use Rattle.faults.specs.declared.fault.Layer.TheVariants as layer
 use Rattle.faults.specs.declared.stop.Stop.{Stop}
 use Rattle.faults.specs.declared.stop.Stop.TheVariants.{Refused, Memory}
 use Rattle.faults.specs.Faults.{made_by}
+use Rattle.sampling.specs.Meanings.{Meaning}
 use Rattle.sampling.specs.Rows.{readings, nothing}
 use Rattle.traces.specs.declared.trace.Trace.{Trace}
 use Rattle.traces.specs.Reading.{Cell, rows, read_trace}
 use Rattle.traces.specs.Rows.{row_of}
 use Rattle.sampling.specs.declared.row.Row.{Row}
-use Rattle.traces.specs.Traces.{left}
+use Rattle.traces.specs.Traces.{left, first}
 
 -- a trace of these rows, of which none was given yet
 pub record Fresh (t : Trace) (bytes : List ℕ) (rs : List (List Cell)) : Type 0 where
@@ -39,3 +41,12 @@ pub record Gives (old new : Trace) : Type 0 where
   pub row : List Cell
   pub rest : left old.bytes.items old.at ≡ row ∷ left new.bytes.items new.at
   pub given : new.given ≡ old.given + 1
+
+-- a trace as a sampler: its next row is the first of those left, and a latch with none left is refused at how many were given
+abbrev pub trace_meaning : Trace → Meaning
+trace_meaning t = record {
+  present = readings t.present;
+  next = first (left t.bytes.items t.at);
+  refusal = made_by layer.Trace (NoRow t.given);
+  dark = λ k. made_by layer.Trace (Dark k);
+}

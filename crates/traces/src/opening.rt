@@ -1,15 +1,10 @@
 // Opening a trace, and giving its rows.
 ghost use Rattle.std.specs.Prelude.{◌≡◌, ℕ, [], ◌∷◌, IfOk, refl};
-ghost use Rattle.faults.specs.declared.cause.Cause.TheVariants.{NoRow, Dark};
-ghost use Rattle.faults.specs.declared.fault.Layer.TheVariants as layer;
-ghost use Rattle.faults.specs.Faults.{made_by};
-ghost use Rattle.sampling.specs.Rows.{readings};
 ghost use Rattle.sampling.specs.Short.{past};
 ghost use Rattle.traces.specs.Reading.{read_trace};
 ghost use Rattle.traces.specs.Rows.{Counts};
 ghost use Rattle.traces.specs.Written.{AcceptsWritten};
-ghost use Rattle.traces.specs.Traces.{left, first};
-ghost use Rattle.traces.specs.Opening.{Fresh, Opens, Comes, Gives};
+ghost use Rattle.traces.specs.Opening.{Fresh, Opens, Comes, Gives, trace_meaning};
 
 use crate::reading::{count_rows, read_row};
 use crate::trace::Trace;
@@ -91,26 +86,17 @@ impl Trace {
 }
 
 impl Sampler for Trace {
-    ghost present = { λ t. readings t.present };
-
-    ghost next = { λ t. first (left t.bytes.items t.at) };
-
-    ghost refusal = { λ t. made_by layer.Trace (NoRow t.given) };
-
-    ghost dark = { λ t k. made_by layer.Trace (Dark k) };
+    ghost meaning = { trace_meaning };
 
     ghost moves = { Gives };
 
-    // a host may open another
-    ghost keeps = { λ t u. Unit {0} };
+    ghost rests = { λ t u. u ≡ t };
 
     ghost short = { λ t k h. past t.present k h };
 
     ghost refuses = { λ t. refl };
 
     ghost darkens = { λ t k. (refl, refl) };
-
-    ghost stays = { λ t. tt };
 
     fn latch(&mut self) -> Result<(), Fault> {
         let Some((row, at)) = self.next_row() else {

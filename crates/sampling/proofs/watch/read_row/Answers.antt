@@ -11,11 +11,11 @@ loop-channel-init g c = ((λ k h. absurd (omega (arith, h))), (λ k h. ap (λ (f
 
 pub loop-channel-preserved : goal.loop-channel-preserved
 loop-channel-preserved g c =
-    let want = g.S.Sampler.present c.args.sampler.now in
+    let want = (g.S.Sampler.meaning c.args.sampler.now).present in
     filled_more (readings c.loop-channel.row) want c.loop-channel.channel c.ok.result c.loop-channel-test.true c.put.ensures
     (c.ok.ensures.value ∙ ap result_ok c.read.ensures ∙ ok_of (want c.loop-channel.channel) _) c.loop-channel.invariant
 
 pub returns : goal.returns
 returns g c =
-    filled_all (readings c.loop-channel.row) (g.S.Sampler.present c.args.sampler.now) c.loop-channel.channel c.loop-channel-test.false
+    filled_all (readings c.loop-channel.row) ((g.S.Sampler.meaning c.args.sampler.now).present) c.loop-channel.channel c.loop-channel-test.false
     (g.met.S.Sampler.short c.args.sampler.now) (past c.loop-channel.row) c.loop-channel.invariant

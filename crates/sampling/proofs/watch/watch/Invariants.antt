@@ -4,5 +4,5 @@ use Rattle.sampling.proofs.watch.watch.Given as goal
 
 abbrev pub invariant-loop : goal.invariant-loop
 invariant-loop g l =
-    Watched g.S.Sampler.present g.S.Sampler.next g.S.Sampler.refusal g.S.Sampler.moves l.fn.hold l.seen.items l.hold
+    Watched g.S.Sampler l.fn.hold l.seen.items l.hold
     × (length l.seen.items ≡ l.counter)

@@ -7,6 +7,6 @@ invariant-loop-channel g l =
     (l.self.below ≡ l.fn.self.below)
     × (l.self.bridges ≡ l.fn.self.bridges)
     × (l.self.latched ≡ l.fn.self.latched)
-    × ((k : ℕ) → k < l.channel → record_at l.self.channels k ≡ after l.fn.self.bridges (record_at l.fn.self.channels k) (g.S.Sampler.present l.fn.self.below k))
+    × ((k : ℕ) → k < l.channel → record_at l.self.channels k ≡ after l.fn.self.bridges (record_at l.fn.self.channels k) ((g.S.Sampler.meaning l.fn.self.below).present k))
     × ((k : ℕ) → l.channel ≤ k → record_at l.self.channels k ≡ record_at l.fn.self.channels k)
     × (length l.self.channels ≡ 16)
