@@ -13,6 +13,10 @@ use Rattle.sampling.specs.Rows.{Readings}
 abbrev pub unread : ChannelRecord
 unread = record { last = None; left = 0 }
 
+-- what is shown of a channel
+abbrev pub last_value : ChannelRecord → Option Value
+last_value r = r.last
+
 -- the record after a latch at which the row below reads this at the channel, where so many latches running are bridged
 abbrev pub after : ℕ → ChannelRecord → Option Value → ChannelRecord
 after bridges r (Some v) = record { last = Some v; left = bridges }

@@ -1,10 +1,18 @@
 -- A hold as a sampler, what a latch that goes through makes of it, and what a refused one leaves. Assumes nothing.
-use Rattle.std.specs.Prelude.{◌≡◌, ℕ, ◌<◌, true, Some, option_map}
+use Rattle.std.specs.Prelude.{◌≡◌, ℕ, ◌<◌, true, false, replicate, Some, option_map}
 use Rattle.sampling.specs.declared.hold.Hold.{Hold}
 use Rattle.sampling.specs.declared.sampler.Sampler.{Ghosts as Sampler}
 use Rattle.faults.specs.Faults.{handed_on}
-use Rattle.sampling.specs.Holds.{after, record_at, bridged, hold_row, hold_dark}
+use Rattle.sampling.specs.Holds.{unread, after, record_at, bridged, hold_row, hold_dark}
 use Rattle.sampling.specs.Meanings.{Meaning, SameRows}
+
+-- a hold of so many latches that has not latched yet
+abbrev pub unlatched : {S : Type 0} → S → ℕ → Hold S
+unlatched s bridges = record { below = s; bridges = bridges; latched = false; channels = replicate 16 unread }
+
+-- the sampler under a hold
+abbrev pub sampler_below : {S : Type 0} → Hold S → S
+sampler_below h = h.below
 
 -- the hold over another sampler
 abbrev pub with_below : {S : Type 0} → Hold S → S → Hold S

@@ -2,11 +2,9 @@
 use Rattle.std.specs.Prelude.{◌≡◌, ℕ, ◌<◌, Bool, true, false, cond, List, Some, None, Option, is_none}
 use Rattle.std.proofs.Common.{refl, arith}
 use Rattle.std.proofs.lemmas.Bool.{le-ltb, cond-false}
-use Rattle.faults.specs.declared.fault.Fault.{Fault}
 use Rattle.faults.specs.declared.cause.Cause.TheVariants.{Dark}
 use Rattle.faults.specs.declared.fault.Layer.TheVariants as layer
-use Rattle.faults.specs.declared.upper.UpperFault.{UpperFault}
-use Rattle.faults.specs.Causes.{number_of, place_of}
+use Rattle.faults.specs.Causes.{refusal}
 use Rattle.faults.specs.Faults.{from_below, its_own}
 use Rattle.values.specs.declared.value.Value.{Value}
 use Rattle.sampling.specs.declared.channel.ChannelRecord.{ChannelRecord}
@@ -22,13 +20,9 @@ pub past_hold : (latched : Bool) (rs : List ChannelRecord) (k : ℕ) → 15 < k 
 past_hold true rs k h = cond-false _ _ _ (le-ltb k 16 (omega arith))
 past_hold false rs k h = refl
 
--- the fault refuses a read of a channel
-abbrev pub Darkens : ℕ → Fault → Type 0
-Darkens k f = (number_of f.cause ≡ 15) × (place_of f.cause ≡ k)
-
-pub dark_hold : (latched : Bool) (below : Meaning) → ((k : ℕ) → Darkens k (below.dark k)) → (k : ℕ) → Darkens k (hold_dark latched below k).fault
-dark_hold false below darkens k = (refl, refl)
+pub dark_hold : (latched : Bool) (below : Meaning) → ((k : ℕ) → refusal (below.dark k).cause ≡ (15, k)) → (k : ℕ) → refusal (hold_dark latched below k).fault.cause ≡ (15, k)
+dark_hold false below darkens k = refl
 dark_hold true below darkens k = by_row (below.present k) where
-  by_row : (o : Option Value) → Darkens k (cond (is_none o) (from_below (below.dark k)) (its_own layer.Hold (Dark k))).fault
+  by_row : (o : Option Value) → refusal (cond (is_none o) (from_below (below.dark k)) (its_own layer.Hold (Dark k))).fault.cause ≡ (15, k)
   by_row None = darkens k
-  by_row (Some v) = (refl, refl)
+  by_row (Some v) = refl

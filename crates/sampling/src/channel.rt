@@ -1,6 +1,6 @@
 // What a hold keeps of one channel.
 ghost use Rattle.std.specs.Prelude.{◌≡◌};
-ghost use Rattle.sampling.specs.Holds.{unread, after};
+ghost use Rattle.sampling.specs.Holds.{unread, last_value, after};
 
 use values::value::Value;
 
@@ -24,7 +24,7 @@ impl ChannelRecord {
 
     // What is shown of the channel.
     pub fn shown(&self) -> Option<Value>
-        ensures { result ≡ self.now.last }
+        ensures { result ≡ last_value self.now }
     {
         self.last
     }

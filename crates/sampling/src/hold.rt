@@ -1,11 +1,11 @@
 // The hold: stands over any sampler, and bridges the latches at which a channel below has nothing.
 ghost use Rattle.std.specs.Prelude.{◌≡◌, ◌<◌, ℕ, true, false, is_ok, unwrap_or, ok_or};
-ghost use Rattle.sampling.specs.Holds.{unread, after, record_at, hold_row, hold_dark};
+ghost use Rattle.sampling.specs.Holds.{after, record_at, hold_row, hold_dark};
 ghost use Rattle.faults.specs.Faults.{from_below};
 ghost use Rattle.std.specs.Borrow.{Lends, sem};
 ghost use Rattle.sampling.specs.contracts.hold.Hold.{the_row};
 ghost use Rattle.sampling.specs.Meanings.{latch_answer, row_after};
-ghost use Rattle.sampling.specs.Moves.{Moved, Rested, hold_meaning, with_below};
+ghost use Rattle.sampling.specs.Moves.{unlatched, sampler_below, with_below, hold_meaning, Moved, Rested};
 ghost use Rattle.sampling.specs.Short.{past_hold, dark_hold};
 
 use crate::channel::ChannelRecord;
@@ -33,10 +33,7 @@ pub struct Hold<S> {
 impl<S: Sampler> Hold<S> {
     // A hold that has not latched yet.
     pub fn new(below: S, bridges: u8) -> Hold<S>
-        ensures below { result.below ≡ below }
-        ensures bridges { result.bridges ≡ bridges }
-        ensures latched { result.latched ≡ false }
-        ensures channels { (k : ℕ) → record_at result.channels k ≡ unread }
+        ensures { result ≡ unlatched below bridges }
     {
         Hold {
             below,
@@ -48,7 +45,7 @@ impl<S: Sampler> Hold<S> {
 
     // The sampler below.
     pub fn get_ref(&self) -> &S
-        ensures { result.now ≡ self.now.below }
+        ensures { result.now ≡ sampler_below self.now }
     {
         &self.below
     }
@@ -56,14 +53,14 @@ impl<S: Sampler> Hold<S> {
     // The sampler below, for its host. The hold takes note of a latch of it alone only at its own next latch.
     pub fn get_mut(&mut self) -> &mut S
         ensures* writes_back { sem 𝓛 (Lends (the_row S.row) S.row self.entry result (with_below self.old)) }
-        ensures value { result.now ≡ self.old.below }
+        ensures value { result.now ≡ sampler_below self.old }
     {
         &mut self.below
     }
 
     // The sampler below, once the hold is done with.
     pub fn into_inner(self) -> S
-        ensures { result ≡ self.below }
+        ensures { result ≡ sampler_below self }
     {
         let Hold { below, .. } = self;
         below
@@ -74,7 +71,8 @@ impl<S: Sampler> Hold<S> {
         ensures below { self.new.below ≡ self.old.below }
         ensures bridges { self.new.bridges ≡ self.old.bridges }
         ensures latched { self.new.latched ≡ self.old.latched }
-        ensures channels { (k : ℕ) → k < 16 → record_at self.new.channels k ≡ after self.old.bridges (record_at self.old.channels k) ((S.meaning self.old.below).present k) }
+        ensures channels { (k : ℕ) → k < 16 → record_at self.new.channels k
+            ≡ after self.old.bridges (record_at self.old.channels k) ((S.meaning self.old.below).present k) }
     {
         for channel in 0..CHANNELS {
             let reading = self.below.read(channel).ok();
@@ -85,7 +83,8 @@ impl<S: Sampler> Hold<S> {
 
     // Latches below, and then takes the row there.
     fn step(&mut self) -> Result<(), HoldFault>
-        ensures answer { result ≡ latch_answer (S.meaning self.old.below).next (from_below (S.meaning self.old.below).refusal) }
+        ensures answer { let below = S.meaning self.old.below in
+            result ≡ latch_answer below.next (from_below below.refusal) }
         ensures below { (S.meaning self.new.below).present ≡ row_after (S.meaning self.old.below) }
         ensures moved { is_ok result ≡ true → Moved S.Sampler self.old self.new }
         ensures rested { is_ok result ≡ false → Rested S.Sampler self.old self.new }
@@ -98,7 +97,8 @@ impl<S: Sampler> Hold<S> {
 
     // What a channel reads: what its record shows. Elsewhere it is dark below too, unless the host has latched there alone.
     fn look(&self, channel: u8) -> Result<Value, HoldFault>
-        ensures { result ≡ ok_or (hold_row self.now.latched self.now.channels channel) (hold_dark self.now.latched (S.meaning self.now.below) channel) }
+        ensures { result ≡ ok_or (hold_row self.now.latched self.now.channels channel)
+            (hold_dark self.now.latched (S.meaning self.now.below) channel) }
     {
         let dark = HoldFault::new(Layer::Hold, Cause::Dark(channel));
         if !self.latched {

@@ -1,6 +1,6 @@
 // The panel: a host sets the next row channel by channel.
 ghost use Rattle.std.specs.Prelude.{◌≡◌, Some, None, refl};
-ghost use Rattle.sampling.specs.Panels.{set, panel_meaning};
+ghost use Rattle.sampling.specs.Panels.{set, present_row, next_row, panel_meaning};
 ghost use Rattle.sampling.specs.Rows.{readings, nothing, placed};
 ghost use Rattle.sampling.specs.Short.{past};
 
@@ -20,8 +20,8 @@ pub struct Panel {
 impl Panel {
     // A panel on which nothing is set.
     pub fn new() -> Panel
-        ensures present { readings result.present ≡ nothing }
-        ensures next { readings result.next ≡ nothing }
+        ensures present { readings (present_row result) ≡ nothing }
+        ensures next { readings (next_row result) ≡ nothing }
     {
         Panel {
             present: Row::empty(),
@@ -32,8 +32,8 @@ impl Panel {
     // Sets what a channel of the next row reads.
     fn set(&mut self, channel: u8, reading: Option<Value>) -> Result<(), Fault>
         ensures answer { result ≡ set channel }
-        ensures next { readings self.new.next ≡ placed (readings self.old.next) channel reading }
-        ensures present { self.new.present ≡ self.old.present }
+        ensures next { readings (next_row self.new) ≡ placed (readings (next_row self.old)) channel reading }
+        ensures present { present_row self.new ≡ present_row self.old }
     {
         if channel >= CHANNELS {
             let cause = Cause::Limit(usize::from(channel));
@@ -46,8 +46,8 @@ impl Panel {
     // Puts a value at a channel of the next row.
     pub fn put(&mut self, channel: u8, value: Value) -> Result<(), Fault>
         ensures answer { result ≡ set channel }
-        ensures next { readings self.new.next ≡ placed (readings self.old.next) channel (Some value) }
-        ensures present { self.new.present ≡ self.old.present }
+        ensures next { readings (next_row self.new) ≡ placed (readings (next_row self.old)) channel (Some value) }
+        ensures present { present_row self.new ≡ present_row self.old }
     {
         self.set(channel, Some(value))
     }
@@ -55,8 +55,8 @@ impl Panel {
     // Clears a channel of the next row.
     pub fn clear(&mut self, channel: u8) -> Result<(), Fault>
         ensures answer { result ≡ set channel }
-        ensures next { readings self.new.next ≡ placed (readings self.old.next) channel None }
-        ensures present { self.new.present ≡ self.old.present }
+        ensures next { readings (next_row self.new) ≡ placed (readings (next_row self.old)) channel None }
+        ensures present { present_row self.new ≡ present_row self.old }
     {
         self.set(channel, None)
     }
@@ -65,16 +65,16 @@ impl Panel {
 impl Sampler for Panel {
     ghost meaning = { panel_meaning };
 
-    ghost moves = { λ p q. q.next ≡ p.next };
+    ghost moves = { λ p q. next_row q ≡ next_row p };
 
     // never met: a panel's latch is not refused
     ghost rests = { λ p q. q ≡ p };
 
-    ghost short = { λ p k h. past p.present k h };
+    ghost short = { λ p k h. past (present_row p) k h };
 
     ghost refuses = { λ p. refl };
 
-    ghost darkens = { λ p k. (refl, refl) };
+    ghost darkens = { λ p k. refl };
 
     fn latch(&mut self) -> Result<(), Fault> {
         self.present = self.next;

@@ -1,6 +1,6 @@
 // What every sampler does.
 ghost use Rattle.std.specs.Prelude.{◌≡◌, ◌<◌, ℕ, true, false, None, is_ok};
-ghost use Rattle.faults.specs.Causes.{number_of, place_of};
+ghost use Rattle.faults.specs.Causes.{number_of, refusal};
 ghost use Rattle.sampling.specs.Meanings.{Meaning, latched, row_after, reading, SameRows};
 
 use faults::fault::Fault;
@@ -34,6 +34,5 @@ pub trait Sampler {
 
     ghost refuses: { (s : Self) → number_of (meaning s).refusal.cause ≡ 14 };
 
-    ghost darkens: { (s : Self) (k : ℕ) →
-        (number_of ((meaning s).dark k).cause ≡ 15) × (place_of ((meaning s).dark k).cause ≡ k) };
+    ghost darkens: { (s : Self) (k : ℕ) → refusal ((meaning s).dark k).cause ≡ (15, k) };
 }

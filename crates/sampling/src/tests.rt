@@ -1,4 +1,4 @@
-// A pile of holds over a panel, with the exact faults and the layers that they passed.
+// Holds over a panel, with the exact faults and the layers that they passed.
 use crate::hold::Hold;
 use crate::panel::Panel;
 use crate::sampler::Sampler;
@@ -32,5 +32,24 @@ fn a_pile_over_a_panel(rt: HostRuntime) -> Result<(), Fail> {
         passed: 2,
     };
     assert!(rt; pile.read(7) == Err(dark));
+    Ok(())
+}
+
+#[test]
+fn a_panel_that_its_host_latches_alone(rt: HostRuntime) -> Result<(), Fail> {
+    let mut hold = Hold::new(Panel::new(), 0);
+    assert!(rt; hold.latch().is_ok());
+    let panel = hold.get_mut();
+    assert!(rt; panel.put(7, Value::Int8(-1)).is_ok());
+    assert!(rt; panel.latch().is_ok());
+    assert!(rt; hold.get_ref().read(7) == Ok(Value::Int8(-1)));
+    // The hold has not latched since: its row has nothing there, and the fault is its own.
+    assert!(rt; hold.read(7) == Err(Fault::new(Layer::Hold, Cause::Dark(7))));
+    assert!(rt; hold.latch().is_ok());
+    assert!(rt; hold.read(7) == Ok(Value::Int8(-1)));
+    let panel = hold.get_mut();
+    assert!(rt; panel.clear(7).is_ok());
+    assert!(rt; panel.latch().is_ok());
+    assert!(rt; hold.read(7) == Ok(Value::Int8(-1)));
     Ok(())
 }

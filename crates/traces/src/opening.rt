@@ -96,7 +96,7 @@ impl Sampler for Trace {
 
     ghost refuses = { λ t. refl };
 
-    ghost darkens = { λ t k. (refl, refl) };
+    ghost darkens = { λ t k. refl };
 
     fn latch(&mut self) -> Result<(), Fault> {
         let Some((row, at)) = self.next_row() else {
