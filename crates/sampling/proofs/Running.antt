@@ -1,5 +1,5 @@
 -- Latches of a hold, one after another. Assumes nothing.
-use Rattle.std.proofs.Common.{arith, length, ◌≡◌, ℕ, zero, suc, ◌+◌, ◌<◌, ◌&&◌, cond, List, [], ◌∷◌, ◌++◌, All, take, drop, Some, None, Option, sym, refl, ap, ◌∙◌, subst}
+use Rattle.std.proofs.Common.{arith, length, ◌≡◌, ℕ, zero, suc, ◌+◌, ◌<◌, ◌&&◌, cond, List, [], ◌∷◌, ◌++◌, All, take, drop, None, Option, sym, refl, ap, ◌∙◌, subst}
 use Rattle.std.proofs.lemmas.Bool.{lt-ltb}
 use Rattle.std.proofs.lemmas.List.{length-append}
 use Rattle.std.proofs.lemmas.List.Elements.{All-nil, All-cons, All-head, All-tail}
@@ -8,7 +8,7 @@ use Rattle.sampling.specs.declared.channel.ChannelRecord.{ChannelRecord}
 use Rattle.sampling.specs.declared.hold.Hold.{Hold}
 use Rattle.sampling.specs.declared.sampler.Sampler.{Ghosts as Sampler}
 use Rattle.sampling.specs.declared.watch.Sighting.{Sighting}
-use Rattle.sampling.specs.Holds.{after, record_at, hold_row}
+use Rattle.sampling.specs.Holds.{after, record_at}
 use Rattle.sampling.specs.Moves.{Moved, with_below}
 use Rattle.sampling.specs.Watching.{Series, part, shown_for, Carries, Bridging, Latch, LeftAlone, rows_shown, rows_below, GoesThrough, Run, HoldsBridge, RefusalsKeep, seen_below, seen_shown, BridgedBy, Latched, Watched}
 use Rattle.sampling.proofs.Bridging.{shows, over_run, plain}

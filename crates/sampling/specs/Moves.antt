@@ -22,17 +22,19 @@ with_below h s = record h { below = s }
 abbrev pub KeepsOwn : {S : Type 0} → Hold S → Hold S → Type 0
 KeepsOwn old new = new ≡ with_below old new.below
 
--- a hold over a sampler that means this
-abbrev pub hold_meaning : {S : Type 0} → Meaning → Hold S → Meaning
-hold_meaning below h = record {
-  present = hold_row h.latched h.channels;
-  next = option_map (bridged h.bridges h.channels) below.next;
-  refusal = handed_on below.refusal;
-  dark = λ k. (hold_dark h.latched below k).fault;
-}
-
 -- ---- over any sampler
 module _ {S : Type 0} (s : Sampler S) where
+  -- what a hold means: its row is its own records, and its next row what it bridges of the next one below
+  abbrev pub hold_meaning : Hold S → Meaning
+  hold_meaning h =
+      let below = s.meaning h.below in
+      record {
+        present = hold_row h.latched h.channels;
+        next = option_map (bridged h.bridges h.channels) below.next;
+        refusal = handed_on below.refusal;
+        dark = λ k. (hold_dark h.latched below k).fault;
+      }
+
   -- the sampler below has latched, so that its next row is the present one, and each channel's record has taken what it reads; how far it bridges stays
   pub record Moved (old new : Hold S) : Type 0 where
     pub row : (s.meaning old.below).next ≡ Some (s.meaning new.below).present
@@ -49,4 +51,4 @@ module _ {S : Type 0} (s : Sampler S) where
 
   -- the hold over it is a sampler again
   abbrev pub over : Sampler (Hold S)
-  over = record { meaning = λ h. hold_meaning (s.meaning h.below) h; moves = Moved; rests = Rested }
+  over = record { meaning = hold_meaning; moves = Moved; rests = Rested }

@@ -11,7 +11,7 @@ use Rattle.sampling.specs.declared.sampler.Sampler.{Ghosts as Sampler}
 use Rattle.sampling.specs.declared.watch.Sighting.{Sighting}
 use Rattle.sampling.specs.Holds.{hold_row}
 use Rattle.sampling.specs.Meanings.{SameRows}
-use Rattle.sampling.specs.Moves.{KeepsOwn, Moved, Rested, over}
+use Rattle.sampling.specs.Moves.{KeepsOwn, hold_meaning, Moved, Rested, over}
 use Rattle.sampling.specs.Rows.{readings}
 
 -- ---- what is read at latches running
@@ -80,12 +80,14 @@ module _ {S : Type 0} (s : Sampler S) where
   abbrev pub HoldsBridge : Type 0
   HoldsBridge = (h : Hold S) (ls : List (Latch S)) → Run h ls → Bridging h.bridges (rows_below ls) (rows_shown ls)
 
-  -- a run of a hold over a hold is a run of the lower one, which shows what the upper one reads below;
-  -- and over what the lower one reads, the upper one bridges as many latches as both together
-  pub record Stacked (h : Hold (Hold S)) (ls : List (Latch (Hold S))) : Type 0 where
-    pub runs : Run h.below (lower ls)
-    pub reads : (k : ℕ) → rows_shown (lower ls) k ≡ map (λ l. ((over s).meaning l.new.below).present k) ls
-    pub carries : Carries (h.bridges + h.below.bridges) (rows_below (lower ls)) (rows_shown ls)
+-- a run of a hold over a hold is a run of the lower one, which shows what the upper one reads below; over what the lower one reads the two
+-- bridge as many latches as both H together, and over whatever the lower one bridges from further down the upper one bridges its own H more
+pub record Stacked {S : Type 0} (s : Sampler S) (h : Hold (Hold S)) (ls : List (Latch (Hold S))) : Type 0 where
+  pub runs : Run s h.below (lower ls)
+  pub reads : (k : ℕ) → rows_shown (lower ls) k ≡ rows_below (over s) ls k
+  pub carries : Carries (h.bridges + h.below.bridges) (rows_below s (lower ls)) (rows_shown ls)
+  pub adds : (bridges : ℕ) (below : Series) →
+      Carries bridges below (rows_shown (lower ls)) → Carries (h.bridges + bridges) below (rows_shown ls)
 
 -- that is so wherever hosts leave the lower hold's own records alone between the latches, whatever else they do below: a host that latches
 -- a lower hold by itself does not. The lower hold may stand over a hold again, and so on: a pile whose lower holds are left alone bridges the sum
@@ -123,16 +125,16 @@ module _ {S : Type 0} (s : Sampler S) where
     pub shown : (k : ℕ) → readings w.shown k ≡ hold_row i.latched i.channels k
 
   -- a latch from h to i that was refused, since there is no next row below: both rows are kept, and so is what a refusal leaves
-  pub record Refuses (h : Hold S) (f : Fault) (i : Hold S) : Type 0 where
+  pub record RefusedLatch (h : Hold S) (f : Fault) (i : Hold S) : Type 0 where
     pub none : (s.meaning h.below).next ≡ None
     pub fault : f ≡ handed_on (s.meaning h.below).refusal
-    pub kept : SameRows ((over s).meaning h) ((over s).meaning i)
+    pub kept : SameRows (hold_meaning s h) (hold_meaning s i)
     pub rested : Rested s h i
 
   -- one latch, and what was seen then
   abbrev pub Sees : Hold S → Hold S → Result Sighting Fault → Type 0
   Sees h i (Ok w) = Latched h w i
-  Sees h i (Err f) = Refuses h f i
+  Sees h i (Err f) = RefusedLatch h f i
 
   -- these were seen, a latch for each, one after another, and nothing else happened
   abbrev pub Watched : Hold S → List Sighting → Hold S → Type 0
@@ -143,5 +145,5 @@ module _ {S : Type 0} (s : Sampler S) where
   abbrev pub Ends : Hold S → Hold S → ℕ → Result (Vec Sighting Global) (Stop Fault) → Type 0
   Ends h i latches (Ok seen) = (length seen.items ≡ latches) × Watched h seen.items i
   Ends h i latches (Err (Refused f)) =
-      (ws : List Sighting) × (j : Hold S) × (length ws < latches) × Watched h ws j × Refuses j f i
+      (ws : List Sighting) × (j : Hold S) × (length ws < latches) × Watched h ws j × RefusedLatch j f i
   Ends h i latches (Err Memory) = (ws : List Sighting) × (length ws ≤ latches) × Watched h ws i

@@ -114,7 +114,7 @@ impl<S: Sampler> Hold<S> {
 }
 
 impl<S: Sampler> Sampler for Hold<S> {
-    ghost meaning = { λ h. hold_meaning (S.meaning h.below) h };
+    ghost meaning = { hold_meaning S.Sampler };
 
     ghost moves = { Moved S.Sampler };
 
