@@ -1,7 +1,6 @@
-pub mod Alarms
+pub mod Arguments
 pub mod Sinks
+pub mod Bells
 pub mod Ledgers
 pub mod Quotas
-pub mod Passing
-pub mod Writing
 pub mod Offers

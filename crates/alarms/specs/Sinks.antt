@@ -1,5 +1,5 @@
 -- What a sink is to its callers, and what offering an alarm does. Assumes nothing.
-use Rattle.std.specs.Prelude.{◌≡◌, ℕ, zero, suc, ◌+◌, ◌≤◌, min, List, [], ◌∷◌, length, Some, Ok, Err, Option, Result}
+use Rattle.std.specs.Prelude.{◌≡◌, ℕ, ◌+◌, ◌≤◌, min, Bool, nat_lt, if◌then◌else◌, List, [], ◌∷◌, length, Some, Ok, Err, Option, Result}
 use Rattle.alarms.specs.declared.alarm.Alarm.{Alarm}
 
 -- what a sink holds, how many alarms it took, the latest, if any, and how many places are left
@@ -13,10 +13,13 @@ pub record View (H : Type 0) : Type 0 where
 abbrev pub counted : ℕ → ℕ
 counted n = min n 4294967295
 
--- an alarm is refused exactly where no place is left
-abbrev pub offered : {E : Type 0} → ℕ → E → Result (Unit {0}) E
-offered zero fault = Err fault
-offered (suc places) fault = Ok tt
+-- whether there is a place for an alarm
+abbrev pub has_place : {H : Type 0} → View H → Alarm → Bool
+has_place v a = nat_lt 0 v.places
+
+-- an alarm is refused exactly where there is no place for it
+abbrev pub offered : {H E : Type 0} → View H → Alarm → E → Result (Unit {0}) E
+offered v a fault = if has_place v a then Ok tt else Err fault
 
 -- an alarm was taken: it is counted and the latest, the holding is what taking it makes of it, and at most one place went
 pub record Taken {H : Type 0} (adds : H → Alarm → H) (a : Alarm) (old new : View H) : Type 0 where
@@ -26,7 +29,7 @@ pub record Taken {H : Type 0} (adds : H → Alarm → H) (a : Alarm) (old new : 
   pub fewer : new.places ≤ old.places
   pub by_one : old.places ≤ new.places + 1
 
--- what comes of an offer: taken where a place is left; otherwise all four are kept
+-- what comes of an offer: the alarm was taken; or it was refused, and all four are kept
 abbrev pub Offered : {H E : Type 0} → (H → Alarm → H) → Alarm → View H → View H → Result (Unit {0}) E → Type 0
 Offered adds a old new (Ok _) = Taken adds a old new
 Offered adds a old new (Err _) = new ≡ old

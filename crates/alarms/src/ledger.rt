@@ -1,18 +1,17 @@
 // The ledger: a list of alarms in the caller's memory.
-ghost use Rattle.std.specs.Prelude.{◌≡◌, ◌++◌, ◌-◌, None, List, true, false, is_ok, min, length, take, drop, slice_get, refl};
+ghost use Rattle.std.specs.Prelude.{◌≡◌, ◌++◌, ◌-◌, None, List, min, length, take, drop, slice_get, refl};
 ghost use Rattle.std.proofs.Common.{arith};
 ghost use Rattle.alarms.specs.declared.alarm.Alarm.{Alarm};
-ghost use Rattle.alarms.specs.Ledgers.{listed, added, shows, full};
-ghost use Rattle.alarms.specs.Sinks.{offered, Offered};
-ghost use Rattle.alarms.specs.Writing.{Written};
+ghost use Rattle.alarms.specs.Ledgers.{entries_of, count_of, memory_of, listed, added, ledger_view, emptied, ledger_full, Written};
 
 use crate::alarm::Alarm;
+use crate::offer::offer;
 use crate::sink::Sink;
 use crate::tally::Tally;
 use faults::cause::Cause;
 use faults::fault::{Fault, Layer};
 
-// A sink that lists its alarms in memory that its caller lends.
+/// A sink that lists its alarms in memory that its caller lends.
 #[derive(Drop)]
 pub struct Ledger<'a> {
     entries: &'a mut [Alarm],
@@ -22,13 +21,13 @@ pub struct Ledger<'a> {
 }
 
 impl<'a> Ledger<'a> {
-    // An empty ledger that took no alarm yet.
+    /// An empty ledger that took no alarm yet.
     pub fn new(entries: &'a mut [Alarm]) -> Ledger<'a>
-        ensures entries { result.entries.now ≡ entries.old }
-        ensures len { result.len ≡ 0 }
-        ensures number { result.tally.number ≡ 0 }
-        ensures latest { result.tally.latest ≡ None }
-        ensures lent { result.entries.ghost_name ≡ entries.entry.ghost_name }
+        ensures entries { entries_of result ≡ entries.old }
+        ensures count { count_of result ≡ 0 }
+        ensures number { (ledger_view result).number ≡ 0 }
+        ensures latest { (ledger_view result).latest ≡ None }
+        ensures lent { memory_of result ≡ entries.entry.ghost_name }
     {
         Ledger {
             entries,
@@ -37,9 +36,9 @@ impl<'a> Ledger<'a> {
         }
     }
 
-    // The alarm at a place of the list, from 0, if there is one.
+    /// The alarm at a place of the list, from 0, if there is one.
     pub fn ask(&self, place: usize) -> Option<Alarm>
-        ensures { result ≡ slice_get (listed self.now.entries.now self.now.len) place }
+        ensures { result ≡ slice_get (listed self.now) place }
     {
         if place >= self.len {
             return None;
@@ -47,19 +46,16 @@ impl<'a> Ledger<'a> {
         self.entries.get(place).copied()
     }
 
-    // Empties the list for use again; the number taken and the latest alarm stay.
+    /// Empties the list for use again; the number taken and the latest alarm stay.
     pub fn collect(&mut self)
-        ensures entries { self.new.entries.now ≡ self.old.entries.now }
-        ensures len { self.new.len ≡ 0 }
-        ensures tally { self.new.tally ≡ self.old.tally }
-        ensures lent { self.new.entries.ghost_name ≡ self.old.entries.ghost_name }
+        ensures { self.new ≡ emptied self.old }
     {
         self.len = 0;
     }
 
     // How many alarms still fit.
     fn left(&self) -> u32
-        ensures { result ≡ min (length self.now.entries.now - self.now.len) (4294967295 - self.now.tally.number) }
+        ensures { result ≡ (ledger_view self.now).places }
     {
         let free = self.entries.len().saturating_sub(self.len);
         u32::try_from(free)
@@ -71,25 +67,21 @@ impl<'a> Ledger<'a> {
 impl<'a> Sink for Ledger<'a> {
     ghost Holding = { List Alarm };
 
-    ghost view = { λ l. shows l.entries.now l.len l.tally.number l.tally.latest };
+    ghost view = { ledger_view };
 
     ghost adds = { added };
 
-    ghost full = { λ l. full };
+    ghost full = { λ l a. ledger_full };
 
-    ghost moves = { λ a l m. Written l a m };
+    ghost moves = { Written };
+
+    ghost rests = { λ a l m. m ≡ l };
 
     ghost bounded = { λ l. omega arith };
 
-    ghost refuses = { λ l. refl };
+    ghost refuses = { λ l a. refl };
 
-    fn take(&mut self, alarm: Alarm) -> Result<(), Fault>
-        ensures answer { result ≡ offered (min (length self.old.entries.now - self.old.len) (4294967295 - self.old.tally.number)) full }
-        ensures view { Offered added alarm (shows self.old.entries.now self.old.len self.old.tally.number self.old.tally.latest) (shows self.new.entries.now self.new.len self.new.tally.number self.new.tally.latest) result }
-        ensures moved { is_ok result ≡ true → Written self.old alarm self.new }
-        ensures kept { is_ok result ≡ false → self.new ≡ self.old }
-        ensures lent { self.new.entries.ghost_name ≡ self.old.entries.ghost_name }
-    {
+    fn take(&mut self, alarm: Alarm) -> Result<(), Fault> {
         if self.left() == 0 {
             return Err(Fault::new(Layer::Ledger, Cause::SinkFull));
         }
@@ -112,17 +104,14 @@ impl<'a> Sink for Ledger<'a> {
     }
 }
 
-// Lists alarms in the caller's memory from its front, as many as have room there, and answers how many.
-// The ledger is called by itself, since of a sink of any kind no one knows that its memory is the one that was lent.
+/// Lists alarms in the caller's memory from its front, as many as have room there, and answers how many.
 pub fn list_in(entries: &mut [Alarm], alarms: &[Alarm]) -> usize
     ensures count { result ≡ min (length alarms.now) (min (length entries.old) 4294967295) }
     ensures entries { entries.new ≡ take result alarms.now ++ drop result entries.old }
 {
     let mut ledger = Ledger::new(entries);
-    for (taken, alarm) in alarms.iter().enumerate() {
-        if ledger.take(*alarm).is_err() {
-            return taken;
-        }
+    match offer(&mut ledger, alarms) {
+        Ok(()) => alarms.len(),
+        Err(untaken) => untaken.taken,
     }
-    alarms.len()
 }

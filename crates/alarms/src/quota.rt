@@ -2,8 +2,7 @@
 ghost use Rattle.std.specs.Prelude.{◌≡◌, true, false, is_ok};
 ghost use Rattle.std.specs.Borrow.{Lends, sem};
 ghost use Rattle.alarms.specs.contracts.quota.Quota.{the_row};
-ghost use Rattle.alarms.specs.Passing.{Passed, with_below};
-ghost use Rattle.alarms.specs.Quotas.{limited, spent, limited_bounded, spent_refuses};
+ghost use Rattle.alarms.specs.Quotas.{quota_on, below_of, with_below, quota_view, quota_full, Passed, Rested, quota_over, limited_bounded, spent_refuses};
 ghost use Rattle.alarms.specs.Sinks.{offered, Offered};
 
 use crate::alarm::Alarm;
@@ -12,10 +11,10 @@ use faults::cause::Cause;
 use faults::fault::{Fault, Layer};
 use faults::upper::UpperFault;
 
-// A fault of a quota: its own, or one from below that it has handed on.
+/// A fault of a quota: its own, or one from below that it has handed on.
 pub type QuotaFault = UpperFault;
 
-// A sink over another that takes no more than so many alarms in all.
+/// A sink over another that takes no more than so many alarms in all.
 #[derive(Drop)]
 pub struct Quota<K> {
     below: K,
@@ -24,32 +23,31 @@ pub struct Quota<K> {
 }
 
 impl<K: Sink> Quota<K> {
-    // A quota that took no alarm yet.
+    /// A quota that took no alarm yet.
     pub fn new(below: K, quota: u16) -> Quota<K>
-        ensures below { result.below ≡ below }
-        ensures left { result.left ≡ quota }
+        ensures { result ≡ quota_on below quota }
     {
         Quota { below, left: quota }
     }
 
-    // The sink below.
+    /// The sink below.
     pub fn get_ref(&self) -> &K
-        ensures { result.now ≡ self.now.below }
+        ensures { result.now ≡ below_of self.now }
     {
         &self.below
     }
 
-    // The sink below, for its host. What it takes past the quota is not counted here.
+    /// The sink below, for its host. What it takes past the quota is not counted here.
     pub fn get_mut(&mut self) -> &mut K
         ensures* writes_back { sem 𝓛 (Lends (the_row K.row) K.row self.entry result (with_below self.old)) }
-        ensures value { result.now ≡ self.old.below }
+        ensures value { result.now ≡ below_of self.old }
     {
         &mut self.below
     }
 
-    // The sink below, once the quota is done with.
+    /// The sink below, once the quota is done with.
     pub fn into_inner(self) -> K
-        ensures { result ≡ self.below }
+        ensures { result ≡ below_of self }
     {
         let Quota { below, .. } = self;
         below
@@ -57,10 +55,10 @@ impl<K: Sink> Quota<K> {
 
     // An alarm for the sink below, where one of the quota's own is left.
     fn pass(&mut self, alarm: Alarm) -> Result<(), QuotaFault>
-        ensures answer { result ≡ offered (limited self.old.left (K.view self.old.below)).places (spent self.old.left (K.full self.old.below)) }
-        ensures view { Offered K.adds alarm (limited self.old.left (K.view self.old.below)) (limited self.new.left (K.view self.new.below)) result }
-        ensures moved { is_ok result ≡ true → Passed K.view K.adds K.moves alarm self.old self.new }
-        ensures kept { is_ok result ≡ false → self.new ≡ self.old }
+        ensures answer { result ≡ offered (quota_view K.Sink self.old) alarm (quota_full K.Sink self.old alarm) }
+        ensures view { Offered K.adds alarm (quota_view K.Sink self.old) (quota_view K.Sink self.new) result }
+        ensures moved { is_ok result ≡ true → Passed K.Sink alarm self.old self.new }
+        ensures rested { is_ok result ≡ false → Rested K.Sink alarm self.old self.new }
     {
         if self.left == 0 {
             return Err(QuotaFault::new(Layer::Quota, Cause::SinkFull));
@@ -72,19 +70,21 @@ impl<K: Sink> Quota<K> {
 }
 
 impl<K: Sink> Sink for Quota<K> {
-    ghost Holding = { K.Holding };
+    ghost Holding = { (quota_over K.Sink).Holding };
 
-    ghost view = { λ q. limited q.left (K.view q.below) };
+    ghost view = { (quota_over K.Sink).view };
 
-    ghost adds = { K.adds };
+    ghost adds = { (quota_over K.Sink).adds };
 
-    ghost full = { λ q. (spent q.left (K.full q.below)).fault };
+    ghost full = { (quota_over K.Sink).full };
 
-    ghost moves = { Passed K.view K.adds K.moves };
+    ghost moves = { (quota_over K.Sink).moves };
+
+    ghost rests = { (quota_over K.Sink).rests };
 
     ghost bounded = { λ q. limited_bounded q.left (K.view q.below) (K.bounded q.below) };
 
-    ghost refuses = { λ q. spent_refuses q.left (K.full q.below) (K.refuses q.below) };
+    ghost refuses = { λ q a. spent_refuses q.left (K.full q.below a) (K.refuses q.below a) };
 
     fn take(&mut self, alarm: Alarm) -> Result<(), Fault> {
         self.pass(alarm)?;

@@ -28,8 +28,24 @@ fn a_fifth_argument_is_given_back(rt: HostRuntime) -> Result<(), Fail> {
         assert!(rt; arguments.push(Value::Word8(n)).is_ok());
     }
     assert!(rt; arguments.push(Value::Word8(4)) == Err(Value::Word8(4)));
-    assert_eq!(rt; arguments.as_slice().len(), 4usize);
-    assert!(rt; arguments.as_slice()[3] == Value::Word8(3));
+    assert_eq!(rt; arguments.len(), 4usize);
+    assert!(rt; arguments.get(0) == Some(Value::Word8(0)));
+    assert!(rt; arguments.get(3) == Some(Value::Word8(3)));
+    assert!(rt; arguments.get(4) == None);
+    Ok(())
+}
+
+#[test]
+fn alarms_are_equal_by_tick_rule_and_arguments(rt: HostRuntime) -> Result<(), Fail> {
+    let mut alarm = Alarm {
+        tick: 3,
+        rule: 0,
+        arguments: Arguments::None,
+    };
+    assert!(rt; alarm != at(3));
+    assert!(rt; alarm.arguments.push(Value::Bool(true)).is_ok());
+    assert!(rt; alarm == at(3));
+    assert!(rt; alarm != at(1));
     Ok(())
 }
 

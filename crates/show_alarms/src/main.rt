@@ -44,9 +44,11 @@ fn tell_alarm(alloc: Global, alarm: &Alarm) -> Result<String, AllocError> {
     let rule = alarm.rule;
     let mut text = format!(in alloc; "{tick}:{rule}:")?;
     let mut before = "";
-    for value in alarm.arguments.as_slice() {
-        write!(text, "{before}{value}")?;
-        before = ",";
+    for place in 0..alarm.arguments.len() {
+        if let Some(value) = alarm.arguments.get(place) {
+            write!(text, "{before}{value}")?;
+            before = ",";
+        }
     }
     Ok(text)
 }
