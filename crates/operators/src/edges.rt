@@ -60,8 +60,10 @@ pub fn edge_cases() -> EdgeCases
     ensures rest { result.rest ≡ value.Int8 (negsuc 0) }
     ensures int8 { KeepsMinimum (value.Int8 (negsuc 127)) (value.Int8 (pos 0)) result.int8 }
     ensures int16 { KeepsMinimum (value.Int16 (negsuc 32767)) (value.Int16 (pos 0)) result.int16 }
-    ensures int32 { KeepsMinimum (value.Int32 (negsuc 2147483647)) (value.Int32 (pos 0)) result.int32 }
-    ensures int64 { KeepsMinimum (value.Int64 (negsuc 9223372036854775807)) (value.Int64 (pos 0)) result.int64 }
+    ensures int32 { KeepsMinimum (value.Int32 (negsuc 2147483647))
+        (value.Int32 (pos 0)) result.int32 }
+    ensures int64 { KeepsMinimum (value.Int64 (negsuc 9223372036854775807))
+        (value.Int64 (pos 0)) result.int64 }
     ensures division { Divides }
 {
     EdgeCases {
