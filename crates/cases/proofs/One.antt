@@ -14,9 +14,10 @@ use Rattle.typing.specs.Typing.{shape}
 use Rattle.references.specs.declared.reference.Id.{Id}
 use Rattle.references.specs.declared.reference.Reference.{Reference}
 use Rattle.references.specs.References.{reads}
-use Rattle.schedule.specs.Edges.{InOrder, id_at}
+use Rattle.schedule.specs.Edges.{InOrder}
 use Rattle.schedule.specs.Graphs.{stream, openings, graph}
-use Rattle.schedule.specs.Plans.{ring_count, lead_by, Takes}
+use Rattle.schedule.specs.Plans.{lead_by, Takes}
+use Rattle.schedule.proofs.Taking.{each_ring}
 use Rattle.walks.specs.Walks.{at, Apart, Rising, Lead, Ring}
 use Rattle.tables.specs.Reading.{checked}
 use Rattle.cases.specs.Cases.{one_stream, OneAhead, NoneAhead}
@@ -70,8 +71,8 @@ lead_is : (s : ℕ) → Lead (graph (one_records 0)) (stream s) (pos 0)
 unfolding openings
 lead_is s = record { reached = (stream s, [], refl, refl); most = λ a w p. most (one_records 0) leads (le_z_yes tt, tt) a (stream s) w p }
 
-ring_is : (q : ℕ) → q < ring_count (one_records 0) → Ring (graph (one_records 0)) (lead_by leads) (id_at (one_records 0) q) 2
-unfolding openings id_at
+ring_is : (s : ℕ) → s < count Stream (one_records 0) → Ring (graph (one_records 0)) (lead_by leads) (stream s) 2
+unfolding openings
 ring_is zero h = record {
   least = negsuc 0;
   own = le_z_yes tt;
@@ -79,10 +80,15 @@ ring_is zero h = record {
   met = inr (itself 0, inl refl, refl, refl);
   is = refl;
 }
-ring_is (suc q) h = absurd (omega arith)
+ring_is (suc s) h = absurd (omega arith)
 
 takes : Takes (one_records 0) 2
-takes = record { lead = leads; length = λ q. 2; measured = record { leads = λ s h. lead_is s; lengths = ring_is }; total = refl }
+takes = record {
+  lead = leads;
+  length = λ id. 2;
+  measured = record { leads = λ s h. lead_is s; lengths = each_ring (one_records 0) (λ id. Ring (graph (one_records 0)) (lead_by leads) id 2) (λ c h. absurd (omega arith)) ring_is };
+  total = refl;
+}
 
 pub none_ahead : NoneAhead
 unfolding openings

@@ -19,9 +19,10 @@ use Rattle.typing.specs.Typing.{shape}
 use Rattle.references.specs.declared.reference.Id.{Id}
 use Rattle.references.specs.declared.reference.Reference.{Reference}
 use Rattle.references.specs.References.{reads, references}
-use Rattle.schedule.specs.Edges.{InOrder, id_at}
+use Rattle.schedule.specs.Edges.{InOrder}
 use Rattle.schedule.specs.Graphs.{channel, stream, openings, graph, IsChannel}
-use Rattle.schedule.specs.Plans.{ring_count, lead_by, Takes}
+use Rattle.schedule.specs.Plans.{lead_by, Takes}
+use Rattle.schedule.proofs.Taking.{each_ring}
 use Rattle.walks.specs.Walks.{Walk, weigh, reach, Falling, Lead, Ring}
 use Rattle.walks.proofs.Cut.{all_in}
 use Rattle.tables.specs.Reading.{checked}
@@ -116,16 +117,26 @@ ring_of_one q low high = record {
 no_channel : (s : ℕ) → ¬ (channel 0 ≡ stream s)
 no_channel s e = omega (arith, ap (λ (x : Id). kind_code x.kind) e)
 
-rings_are : (q : ℕ) → q < ring_count (three_records 3) → Ring (graph (three_records 3)) (lead_by leads) (id_at (three_records 3) q) 1
-unfolding id_at
-rings_are zero h = ring_of_one (channel 0) (λ _. le_z_yes tt) (le_z_yes tt)
-rings_are (suc zero) h = ring_of_one (stream 0) (λ e. absurd (no_channel 0 e)) (le_z_yes tt)
-rings_are (suc (suc zero)) h = ring_of_one (stream 1) (λ e. absurd (no_channel 1 e)) (le_z_yes tt)
-rings_are (suc (suc (suc zero))) h = ring_of_one (stream 2) (λ _. le_z_yes tt) (le_z_yes tt)
-rings_are (suc (suc (suc (suc q)))) h = absurd (omega arith)
+channel_ring_is : (c : ℕ) → c < count Channel (three_records 3) → Ring (graph (three_records 3)) (lead_by leads) (channel c) 1
+channel_ring_is zero h = ring_of_one (channel 0) (λ _. le_z_yes tt) (le_z_yes tt)
+channel_ring_is (suc c) h = absurd (omega arith)
+
+rings_are : (s : ℕ) → s < count Stream (three_records 3) → Ring (graph (three_records 3)) (lead_by leads) (stream s) 1
+rings_are zero h = ring_of_one (stream 0) (λ e. absurd (no_channel 0 e)) (le_z_yes tt)
+rings_are (suc zero) h = ring_of_one (stream 1) (λ e. absurd (no_channel 1 e)) (le_z_yes tt)
+rings_are (suc (suc zero)) h = ring_of_one (stream 2) (λ _. le_z_yes tt) (le_z_yes tt)
+rings_are (suc (suc (suc s))) h = absurd (omega arith)
 
 takes : Takes (three_records 3) 4
-takes = record { lead = leads; length = λ q. 1; measured = record { leads = leads_are; lengths = rings_are }; total = refl }
+takes = record {
+  lead = leads;
+  length = λ id. 1;
+  measured = record {
+    leads = leads_are;
+    lengths = each_ring (three_records 3) (λ id. Ring (graph (three_records 3)) (lead_by leads) id 1) channel_ring_is rings_are;
+  };
+  total = refl;
+}
 
 pub three_ahead : ThreeAhead
 three_ahead = acceptance (three_streams 3) (three_records 3) three_order in_order (three_falls 3) (settled (three_records 3) leads up) 4 takes (omega arith)

@@ -17,9 +17,10 @@ use Rattle.typing.specs.Typing.{shape}
 use Rattle.references.specs.declared.reference.Id.{Id}
 use Rattle.references.specs.declared.reference.Reference.{Reference}
 use Rattle.references.specs.References.{reads, references}
-use Rattle.schedule.specs.Edges.{InOrder, id_at}
+use Rattle.schedule.specs.Edges.{InOrder}
 use Rattle.schedule.specs.Graphs.{stream, openings, graph}
-use Rattle.schedule.specs.Plans.{ring_count, lead_by, Takes}
+use Rattle.schedule.specs.Plans.{lead_by, Takes}
+use Rattle.schedule.proofs.Taking.{each_ring}
 use Rattle.walks.specs.Walks.{reach, Falling, Lead, Ring}
 use Rattle.tables.specs.Reading.{checked}
 use Rattle.cases.specs.Cases.{two_streams, two_leads, Two, TwoStreams}
@@ -93,18 +94,23 @@ leads_are zero h = two.lead_m3
 leads_are (suc zero) h = two.lead_m2
 leads_are (suc (suc s)) h = absurd (omega arith)
 
+-- the lengths of the streams' rings
 abbrev lengths : ℕ → ℕ
 lengths zero = 1
-lengths (suc q) = 3
+lengths (suc s) = 3
 
-rings_are : (q : ℕ) → q < ring_count two_records → Ring (graph two_records) (lead_by two_leads) (id_at two_records q) (lengths q)
-unfolding id_at
+rings_are : (s : ℕ) → s < count Stream two_records → Ring (graph two_records) (lead_by two_leads) (stream s) (lengths s)
 rings_are zero h = two.ring_m3
 rings_are (suc zero) h = two.ring_m2
-rings_are (suc (suc q)) h = absurd (omega arith)
+rings_are (suc (suc s)) h = absurd (omega arith)
 
 takes : Takes two_records 4
-takes = record { lead = two_leads; length = lengths; measured = record { leads = leads_are; lengths = rings_are }; total = refl }
+takes = record {
+  lead = two_leads;
+  length = λ id. lengths id.number;
+  measured = record { leads = leads_are; lengths = each_ring two_records (λ id. Ring (graph two_records) (lead_by two_leads) id (lengths id.number)) (λ c h. absurd (omega arith)) rings_are };
+  total = refl;
+}
 
 pub both_streams : TwoStreams
 both_streams = (

@@ -1,7 +1,6 @@
 -- From what is said of edges to what is said of a table's records. Assumes nothing.
-use Rattle.std.proofs.Common.{◌≡◌, ℕ, ◌+◌, ◌<◌, List, [], length, get_or, ℤ, ◌+ℤ◌, Ok, Err, Result, sym, refl, ap, ◌∙◌, subst, inl, inr, arith}
+use Rattle.std.proofs.Common.{◌≡◌, ℕ, ◌+◌, ◌<◌, List, [], length, get_or, ℤ, ◌+ℤ◌, Ok, Err, Result, sym, ap, ◌∙◌, subst, inl, inr, arith}
 use Rattle.faults.specs.declared.cause.Cause.{Cause}
-use Rattle.syntax.specs.declared.record.Kind.{Kind}
 use Rattle.syntax.specs.declared.record.Kind.TheVariants.{Channel, Stream, Rule}
 use Rattle.syntax.specs.Entries.{Entry, count}
 use Rattle.references.specs.declared.reference.Id.{Id}
@@ -18,15 +17,15 @@ use Rattle.std.proofs.lemmas.List.FromFn.{length-map-range_with_len, get_or-map-
 use Rattle.schedule.specs.declared.plan.Plan.{Plan}
 use Rattle.schedule.specs.declared.plan.Ring.{Ring as Slots}
 use Rattle.schedule.specs.Graphs.{graph, told, IsChannel}
-use Rattle.schedule.specs.Edges.{Orderly, node_by, node, edge, edges}
-use Rattle.schedule.specs.Plans.{ring_count, HasRing, lead_by, Measured, slots_before, slots_of, no_ring, ring_in, length_in, ring_of_kind, length_of, lead_in, Ordered, Planned}
+use Rattle.schedule.specs.Edges.{Orderly, node, edge, edges}
+use Rattle.schedule.specs.Plans.{ring_count, HasRing, lead_by, Measured, slots_before, slots_of, no_ring, ring_in, length_in, length_of, lead_in, Ordered, Planned}
 use Rattle.schedule.specs.Placements.{ring_at, Places}
 use Rattle.schedule.specs.Walking.{BlamesWalk, Weighed}
 use Rattle.schedule.specs.Scheduling.{Overfull}
 use Rattle.schedule.proofs.Carrying.{in_map, stands, falls_down, settled_down, closed_down, ahead_down}
 use Rattle.schedule.proofs.Measuring.{lead_same, measured}
 use Rattle.schedule.proofs.Placing.{all_fit}
-use Rattle.schedule.proofs.Taking.{slots_same, slots_listed}
+use Rattle.schedule.proofs.Taking.{slots_same, slots_listed, each_ring}
 
 module _ (rs : List Entry) (o : Orderly rs) where
   blames_down : (old new : List SheetEntry) (c : Cause) → BlamesWalk (plain.graph (edges rs)) (plain.Channel (count Channel rs)) plain.told old new c →
@@ -38,12 +37,8 @@ module _ (rs : List Entry) (o : Orderly rs) where
   length_is : (p : Plan) → p.counts.records.channels ≡ count Channel rs → (lengths : List ℕ) → ((q : ℕ) → q < ring_count rs → length_in p q ≡ get_or lengths q 0) →
       (id : Id) → HasRing rs id → length_of p id ≡ get_or lengths (node rs id) 0
   unfolding node
-  length_is p channels lengths same id h = go id.kind id.number h.valid h.no_rule
-    where
-      go : (k : Kind) (n : ℕ) → n < count k rs → ¬ (k ≡ Rule) → (ring_of_kind p k n).length ≡ get_or lengths (node_by (count Channel rs) (count Stream rs) k n) 0
-      go Channel n l other = same n (omega arith)
-      go Stream n l other = ap (λ (m : ℕ). length_in p (m + n)) channels ∙ same (count Channel rs + n) (omega arith)
-      go Rule n l other = absurd (other refl)
+  length_is p channels lengths same = each_ring rs (λ id. length_of p id ≡ get_or lengths (node rs id) 0) (λ c l. same c (omega arith))
+      (λ s l. ap (λ (n : ℕ). length_in p (n + s)) channels ∙ same (count Channel rs + s) (omega arith))
 
   module _ (l : Layout) (laid : layouts.Laid (count Channel rs) (count Stream rs) (edges rs) l) (settled : Settled (plain.graph (edges rs)) (plain.Channel (count Channel rs))) where
     module _ (lead : ℕ → ℕ) (leads_so : (s : ℕ) → s < count Stream rs → lead s ≡ get_or l.leads (count Channel rs + s) 0) where

@@ -42,12 +42,20 @@ slots_listed rs p channels =
     slots_joined (length_in p) (count Channel rs) (count Stream rs)
     ∙ ap (λ (n : ℕ). slots_before (length_in p) (count Channel rs) + slots_before (λ s. length_in p (n + s)) (count Stream rs)) (sym channels)
 
--- channels and streams have rings
+-- channels and streams have rings, and nothing else has
 pub channel_ring : (rs : List Entry) (c : ℕ) → c < count Channel rs → HasRing rs (channel c)
 channel_ring rs c l = record { valid = l; no_rule = λ e. absurd (let q : ◌≡◌ {A = ℕ} 0 1 = cc in omega arith) }
 
 pub stream_ring : (rs : List Entry) (s : ℕ) → s < count Stream rs → HasRing rs (stream s)
 stream_ring rs s l = record { valid = l; no_rule = λ e. absurd (let q : ◌≡◌ {A = ℕ} 0 1 = cc in omega arith) }
+
+pub each_ring : (rs : List Entry) (P : Id → Type 0) → ((c : ℕ) → c < count Channel rs → P (channel c)) → ((s : ℕ) → s < count Stream rs → P (stream s)) → (id : Id) → HasRing rs id → P id
+each_ring rs P channels streams id h = go id.kind id.number h.valid h.no_rule
+  where
+    go : (k : Kind) (n : ℕ) → n < count k rs → ¬ (k ≡ Rule) → P (record { kind = k; number = n })
+    go Channel n l other = channels n l
+    go Stream n l other = streams n l
+    go Rule n l other = absurd (other refl)
 
 module _ (rs : List Entry) (o : Orderly rs) (lead lead' : ℕ → ℕ) (length length' : Id → ℕ) (k : Measured rs lead length) (l : Measured rs lead' length') where
   lead_agrees : (id : Id) → Valid rs id → lead_by lead id ≡ lead_by lead' id
