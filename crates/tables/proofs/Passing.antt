@@ -1,67 +1,72 @@
 -- Bytes that are read, named and typed are in order; and where one of these stops, the check stops. Assumes nothing.
-use Rattle.std.proofs.Common.{◌≡◌, ℕ, ◌<◌, ◌≤◌, List, length, get_or, Ok, Err, Result, sym, refl, ap, ◌∙◌, subst, inr, arith, w8, Fits}
+use Rattle.std.proofs.Common.{◌≡◌, ℕ, ◌<◌, ◌≤◌, List, [], length, get_or, Ok, Err, Result, sym, refl, ap, ◌∙◌, subst, inr, arith, w8, Fits}
 use Rattle.faults.specs.declared.cause.Cause.{Cause}
+use Rattle.faults.specs.Causes.{Refusal}
 use Rattle.faults.specs.declared.stop.Stop.{Stop}
 use Rattle.faults.specs.declared.stop.Stop.TheVariants.{Refused, Memory}
 use Rattle.syntax.specs.Entries.{Entry}
 use Rattle.std.proofs.ByRecursion.{All-from_get_or}
+use Rattle.std.specs.Result.{result_unwrap_or}
 use Rattle.syntax.proofs.Accepted.{accepts_written}
 use Rattle.syntax.specs.Passing.{then}
 use Rattle.syntax.specs.Reading.{read_table}
 use Rattle.syntax.specs.Written.{Written, AcceptsWritten}
 use Rattle.names.specs.Declaring.{undeclared_in}
 use Rattle.typing.specs.Judging.{types_in}
+use Rattle.schedule.specs.declared.plan.Counts.{Counts}
 use Rattle.schedule.specs.declared.plan.Plan.{Plan}
 use Rattle.schedule.specs.Edges.{InOrder}
-use Rattle.schedule.specs.Plans.{lead_in, length_in, counted, Planned}
+use Rattle.schedule.specs.Plans.{lead_in, length_of, counted, Planned}
 use Rattle.schedule.specs.Scheduling.{Scheduled}
 use Rattle.walks.specs.declared.edge.SheetEntry.{SheetEntry}
+use Rattle.tables.specs.declared.content.Content.{Content}
+use Rattle.tables.specs.declared.table.Table.{Table}
 use Rattle.tables.specs.Reading.{checked}
-use Rattle.tables.specs.Checking.{Accepts, Starved, Admits}
+use Rattle.tables.specs.Contents.{Sorts, Resolves, plan_in}
+use Rattle.tables.specs.Accepting.{Accepted, records_in}
+use Rattle.tables.specs.Tables.{bytes_of, plan_of}
+use Rattle.tables.specs.Checking.{Accepts, Starved, Admits, Holds}
 
 -- the law of reading, of a slice whose elements are bytes
 pub written_law : (bytes : List ℕ) → ((i : ℕ) → Fits w8 (get_or bytes i 0)) → AcceptsWritten bytes
 written_law bytes typed = accepts_written bytes (All-from_get_or (λ b. b < 256) bytes 0 (λ i _. (typed i).fits))
 
 -- ---- what bytes in order have passed
-abbrev typed_next : List Entry → Result (List Entry) Cause
+abbrev pub typed_next : List Entry → Result (List Entry) Refusal
 typed_next rs = then (types_in rs) (λ _. Ok rs)
 
-abbrev named_next : List Entry → Result (List Entry) Cause
+abbrev pub named_next : List Entry → Result (List Entry) Refusal
 named_next rs = then (undeclared_in rs) (λ _. typed_next rs)
 
+then_ok : {X Y E : Type 0} (o : Result X E) (f : X → Result Y E) (y : Y) → then o f ≡ Ok y → (x : X) × (o ≡ Ok x) × (f x ≡ Ok y)
+then_ok (Ok x) f y e = (x, refl, e)
+then_ok (Err c) f y e = absurd cc
+
+pub record Passes (bytes : List ℕ) (rs : List Entry) : Type 0 where
+  pub read : read_table bytes ≡ Ok rs
+  pub named : undeclared_in rs ≡ Ok tt
+  pub typed : types_in rs ≡ Ok tt
+
 module _ (bytes : List ℕ) (rs : List Entry) where
-  abbrev Parts : Type 0
-  Parts = (read_table bytes ≡ Ok rs) × (undeclared_in rs ≡ Ok tt)
-
-  typed_parts : (ts : List Entry) (o : Result (Unit {0}) Cause) → read_table bytes ≡ Ok ts → undeclared_in ts ≡ Ok tt → then o (λ _. Ok ts) ≡ Ok rs → Parts
-  typed_parts ts (Ok u) read named e =
-      let same : ts ≡ rs = cc in
-      subst (λ (x : List Entry). (read_table bytes ≡ Ok x) × (undeclared_in x ≡ Ok tt)) same (read, named)
-  typed_parts ts (Err x) read named e = absurd (let q : ◌≡◌ {A = ℕ} 0 1 = cc in omega arith)
-
-  named_parts : (ts : List Entry) (o : Result (Unit {0}) Cause) → read_table bytes ≡ Ok ts → undeclared_in ts ≡ o → then o (λ _. typed_next ts) ≡ Ok rs → Parts
-  named_parts ts (Ok u) read is e = typed_parts ts (types_in ts) read is e
-  named_parts ts (Err x) read is e = absurd (let q : ◌≡◌ {A = ℕ} 0 1 = cc in omega arith)
-
-  read_parts : (o : Result (List Entry) Cause) → read_table bytes ≡ o → then o (named_next) ≡ Ok rs → Parts
-  read_parts (Ok ts) is e = named_parts ts (undeclared_in ts) is refl e
-  read_parts (Err x) is e = absurd (let q : ◌≡◌ {A = ℕ} 0 1 = cc in omega arith)
-
-  parts : checked bytes ≡ Ok rs → Parts
+  pub passes : checked bytes ≡ Ok rs → Passes bytes rs
   unfolding checked
-  parts e = read_parts (read_table bytes) refl e
+  passes e =
+      let (ts, read, e1) = then_ok (read_table bytes) named_next rs e in
+      let (u, named, e2) = then_ok (undeclared_in ts) (λ _. typed_next ts) rs e1 in
+      let (v, typed, e3) = then_ok (types_in ts) (λ _. Ok ts) rs e2 in
+      let same : ts ≡ rs = cc in
+      subst (Passes bytes) same (record { read = read; named = named; typed = typed })
 
   pub order_of : AcceptsWritten bytes → checked bytes ≡ Ok rs → InOrder rs
   order_of law e =
-      let (read, named) = parts e in
-      let w : Written bytes rs = (law rs).0 read in
-      record { small = w.small; few = w.few; named = named }
+      let p = passes e in
+      let w : Written bytes rs = (law rs).0 p.read in
+      record { small = w.small; few = w.few; named = p.named }
 
   -- version and size have passed
   pub starved : (sheet : List SheetEntry) → AcceptsWritten bytes → checked bytes ≡ Ok rs → 33 ≤ length sheet → Starved bytes sheet
   starved sheet law e space =
-      let w : Written bytes rs = (law rs).0 (parts e).0 in
+      let w : Written bytes rs = (law rs).0 (passes e).read in
       record { space = space; version = ap (λ (l : List ℕ). get_or l 0 0) w.whole; size = w.size }
 
   -- where the plan stops, the check stops
@@ -76,7 +81,24 @@ module _ (bytes : List ℕ) (rs : List Entry) where
     order = e;
     falls = k.falls;
     settled = k.settled;
-    takes = record { lead = lead_in p; length = length_in p; measured = k.measured; total = ap (λ c. c.slots) k.counts };
+    takes = record { lead = lead_in p; length = length_of p; measured = k.measured; total = ap (λ c. c.slots) k.counts };
     small = small;
     counts = k.counts ∙ ap (counted rs) (sym (ap (λ c. c.slots) k.counts));
   }
+
+-- ---- what is made of bytes in order
+module _ (bytes : List ℕ) (rs : List Entry) (e : checked bytes ≡ Ok rs) where
+  written : rs ≡ records_in bytes
+  written = sym (ap (λ (r : Result (List Entry) Refusal). result_unwrap_or r []) e)
+
+  pub accepted : (p : Plan) (c : Content) → Resolves rs p c → InOrder rs → Planned rs p → p.counts.slots ≤ 2048 → Accepted bytes c
+  accepted p c made in_order planned small = record {
+    passed = e ∙ ap Ok written;
+    in_order = subst InOrder written in_order;
+    sorts = subst (λ (l : List Entry). Sorts l c) written made.0;
+    planned = subst (λ (l : List Entry). Planned l (plan_in c)) written (subst (Planned rs) (sym made.1) planned);
+    small = subst (λ (q : Plan). q.counts.slots ≤ 2048) (sym made.1) small;
+  }
+
+  pub holds : (t : Table) (c : Counts) → bytes_of t ≡ bytes → (plan_of t).counts ≡ c → Holds t bytes c
+  holds t c same counts = record { bytes_are = same; records_are = e ∙ ap Ok (written ∙ ap records_in (sym same)); counts_are = counts }

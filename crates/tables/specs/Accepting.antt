@@ -1,12 +1,21 @@
 -- What an accepted table holds. Assumes nothing.
-use Rattle.std.specs.Prelude.{◌≡◌, ℕ, ◌≤◌, List, Ok}
-use Rattle.schedule.specs.declared.plan.Plan.{Plan}
+use Rattle.std.specs.Prelude.{◌≡◌, ℕ, ◌≤◌, List, [], Ok}
+use Rattle.std.specs.Result.{result_unwrap_or}
+use Rattle.schedule.specs.Edges.{InOrder}
 use Rattle.schedule.specs.Plans.{Planned}
 use Rattle.syntax.specs.Entries.{Entry}
+use Rattle.tables.specs.declared.content.Content.{Content}
+use Rattle.tables.specs.Contents.{Sorts, plan_in}
 use Rattle.tables.specs.Reading.{checked}
 
--- bytes that are in order, their records, and a plan of them that fits the memory
-pub record Accepted (bytes : List ℕ) (rs : List Entry) (p : Plan) : Type 0 where
-  pub order : checked bytes ≡ Ok rs
-  pub planned : Planned rs p
-  pub small : p.counts.slots ≤ 2048
+-- the records that bytes write, none where they are not in order
+abbrev pub records_in : List ℕ → List Entry
+records_in bytes = result_unwrap_or (checked bytes) []
+
+-- bytes that are in order, their records by kind, and a plan of them that fits the memory
+pub record Accepted (bytes : List ℕ) (c : Content) : Type 0 where
+  pub passed : checked bytes ≡ Ok (records_in bytes)
+  pub in_order : InOrder (records_in bytes)
+  pub sorts : Sorts (records_in bytes) c
+  pub planned : Planned (records_in bytes) (plan_in c)
+  pub small : c.counts.slots ≤ 2048

@@ -1,9 +1,9 @@
 -- What the check answers of a table's bytes and a sheet, and what it leaves behind. Assumes nothing.
-use Rattle.std.specs.Prelude.{◌≡◌, ℕ, ◌<◌, ◌≤◌, ◌⊎◌, List, [], ◌∷◌, length, pos, ◌≤ℤ◌, Ok, Err, vec_items, Result, slice_index}
+use Rattle.std.specs.Prelude.{◌≡◌, ℕ, ◌<◌, ◌≤◌, ◌⊎◌, List, [], ◌∷◌, length, pos, ◌≤ℤ◌, Ok, Err, Result, slice_index}
 use Rattle.faults.specs.declared.cause.Cause.{Cause}
 use Rattle.faults.specs.declared.cause.Cause.TheVariants.{ShortSheet}
 use Rattle.faults.specs.declared.fault.Layer.TheVariants as layer
-use Rattle.faults.specs.Causes.{number_of}
+use Rattle.faults.specs.Causes.{refusal, number_of}
 use Rattle.faults.specs.Faults.{made_by}
 use Rattle.references.specs.declared.reference.Id.{Id}
 use Rattle.references.specs.declared.reference.Reference.{Reference}
@@ -12,19 +12,20 @@ use Rattle.schedule.specs.Graphs.{graph, IsChannel}
 use Rattle.schedule.specs.Plans.{Takes, counted}
 use Rattle.schedule.specs.Scheduling.{Blames}
 use Rattle.faults.specs.declared.stop.Stop.{Stop}
-use Rattle.syntax.specs.Entries.{Entry, entries_of}
+use Rattle.syntax.specs.Entries.{Entry}
 use Rattle.walks.specs.declared.edge.SheetEntry.{SheetEntry}
 use Rattle.walks.specs.Walks.{Walk, weigh, Rising, Falling, Settled}
 use Rattle.tables.specs.Rejecting.{Rejection}
 use Rattle.faults.specs.declared.stop.Stop.TheVariants.{Refused, Memory}
 use Rattle.tables.specs.declared.table.Table.{Table}
 use Rattle.tables.specs.Reading.{checked}
+use Rattle.tables.specs.Tables.{bytes_of, records_of, plan_of}
 
--- the table holds these bytes, the records that they write, and a plan of so many slots
+-- the table holds these bytes, the records that they write, and a plan with these counts
 pub record Holds (t : Table) (bytes : List ℕ) (c : Counts) : Type 0 where
-  pub bytes_are : vec_items t.bytes ≡ bytes
-  pub records_are : checked bytes ≡ Ok (entries_of t.records)
-  pub counts_are : t.plan.counts ≡ c
+  pub bytes_are : bytes_of t ≡ bytes
+  pub records_are : checked bytes ≡ Ok (records_of t)
+  pub counts_are : (plan_of t).counts ≡ c
 
 -- the bytes are accepted with these counts: they are in order, no walk is to blame, and their rings take so many slots, at most 2,048
 pub record Accepts (bytes : List ℕ) (c : Counts) : Type 0 where
@@ -36,11 +37,11 @@ pub record Accepts (bytes : List ℕ) (c : Counts) : Type 0 where
   pub small : c.slots ≤ 2048
   pub counts : c ≡ counted records c.slots
 
--- why bytes are refused: the sheet is short; or they are not in order; or a walk or their slots are to blame
+-- why bytes are refused, by number and place: the sheet is short; or they are not in order; or a walk or their slots are to blame
 abbrev pub Refuses : List ℕ → List SheetEntry → List SheetEntry → Cause → Type 0
 Refuses bytes sheet sheet' c =
-    ((length sheet < 33) × (c ≡ ShortSheet (length sheet)) × (sheet' ≡ sheet))
-    ⊎ ((33 ≤ length sheet) × (checked bytes ≡ Err c) × (sheet' ≡ sheet))
+    ((length sheet < 33) × (refusal c ≡ refusal (ShortSheet (length sheet))) × (sheet' ≡ sheet))
+    ⊎ ((33 ≤ length sheet) × (checked bytes ≡ Err (refusal c)) × (sheet' ≡ sheet))
     ⊎ ((33 ≤ length sheet) × (rs : List Entry) × (checked bytes ≡ Ok rs) × Blames rs sheet sheet' c)
 
 -- memory may fail only where sheet, version and size have passed
@@ -57,7 +58,7 @@ Answers old new bytes sheet sheet' (Err Memory) = (new ≡ old) × (sheet' ≡ s
 
 -- the same of a table that is made, before another gives way to it
 abbrev pub Admits : List ℕ → List SheetEntry → List SheetEntry → Result Table (Stop Cause) → Type 0
-Admits bytes sheet sheet' (Ok t) = (33 ≤ length sheet) × (sheet' ≡ sheet) × Accepts bytes t.plan.counts × Holds t bytes t.plan.counts
+Admits bytes sheet sheet' (Ok t) = (33 ≤ length sheet) × (sheet' ≡ sheet) × Accepts bytes (plan_of t).counts × Holds t bytes (plan_of t).counts
 Admits bytes sheet sheet' (Err (Refused c)) = Refuses bytes sheet sheet' c
 Admits bytes sheet sheet' (Err Memory) = (sheet' ≡ sheet) × Starved bytes sheet
 

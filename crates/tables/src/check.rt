@@ -1,7 +1,10 @@
 // The check of a table, and the first table, which it has to replace.
 ghost use Rattle.std.specs.Prelude.{◌≡◌, IfOk};
 ghost use Rattle.tables.specs.Checking.{Admits, Answers, First, Decided};
+ghost use Rattle.tables.specs.Contents.{greatest_lead_in};
+ghost use Rattle.tables.specs.Tables.{bytes_of, channels_of, streams_of, rules_of, plan_of};
 
+use crate::content::{Channel, Content, Stream};
 use crate::reading::read_checked;
 use crate::rejection::Rejection;
 use crate::table::Table;
@@ -12,6 +15,7 @@ use faults::stop::Stop;
 use schedule::ordered::OrderedRecords;
 use schedule::plan::{Counts, Plan, make_plan};
 use std::alloc::{AllocError, Global};
+use syntax::record::Rule;
 use walks::edge::SheetEntry;
 use walks::sheet::{LEAST_SHEET, Sheet};
 
@@ -27,11 +31,8 @@ fn accept(alloc: Global, bytes: &[u8], sheet: &mut [SheetEntry]) -> Result<Table
     let ordered = OrderedRecords { records: &records };
     let plan = make_plan(alloc, &ordered, &mut sheet)?;
     let bytes = bytes.to_vec(alloc)?;
-    Ok(Table {
-        bytes,
-        records,
-        plan,
-    })
+    let content = Content::new(alloc, records, plan)?;
+    Ok(Table { bytes, content })
 }
 
 impl Table {
@@ -45,12 +46,8 @@ impl Table {
             order: ArrayVec::new(),
             rings: ArrayVec::new(),
         };
-        let records = Vec::new(alloc);
-        Ok(Table {
-            bytes,
-            records,
-            plan,
-        })
+        let content = Content::new(alloc, Vec::new(alloc), plan)?;
+        Ok(Table { bytes, content })
     }
 
     // Checks the bytes of a table and puts it in this one's place; or says why not, with a walk to blame in the sheet's first entries.
@@ -68,15 +65,57 @@ impl Table {
             Ok(table) => table,
             Err(stop) => return Err(stop.made_by(Layer::Table)),
         };
-        let counts = table.plan.counts;
+        let counts = table.counts();
         *self = table;
         Ok(counts)
     }
 
-    // The bytes of the table.
+    /// The bytes of the table.
     pub fn bytes(&self) -> &[u8]
-        ensures { result.now ≡ self.now.bytes.items }
+        ensures { result.now ≡ bytes_of self.now }
     {
         &self.bytes
+    }
+
+    /// How many records of each kind it has, and how many slots its rings take.
+    pub fn counts(&self) -> Counts
+        ensures { result ≡ (plan_of self.now).counts }
+    {
+        self.content.counts
+    }
+
+    /// Its channels by number.
+    pub fn channels(&self) -> &[Channel]
+        ensures { result.now ≡ channels_of self.now }
+    {
+        &self.content.channels
+    }
+
+    /// Its streams by number.
+    pub fn streams(&self) -> &[Stream]
+        ensures { result.now ≡ streams_of self.now }
+    {
+        &self.content.streams
+    }
+
+    /// Its rules by number.
+    pub fn rules(&self) -> &[Rule]
+        ensures { result.now ≡ rules_of self.now }
+    {
+        &self.content.rules
+    }
+
+    /// The streams' numbers, in an order of evaluation.
+    pub fn order(&self) -> &[usize]
+        ensures { result.now ≡ (plan_of self.now).order.items }
+    {
+        &self.content.order
+    }
+
+    /// The greatest lead of its streams, 0 where it has none.
+    pub fn greatest_lead(&self) -> u32
+        ensures { result ≡ greatest_lead_in (streams_of self.now) }
+    {
+        self.content.greatest_lead
     }
 }

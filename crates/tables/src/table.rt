@@ -1,15 +1,12 @@
 // An accepted table.
-ghost use Rattle.syntax.specs.Entries.{entries_of};
 ghost use Rattle.tables.specs.Accepting.{Accepted};
 
-use schedule::plan::Plan;
-use syntax::record::Record;
+use crate::content::Content;
 
-// A table that the check accepted: its bytes, the records that they write, and the plan of its values.
+/// A table that the check accepted: its bytes, and what a tick needs of it.
 #[derive(Drop)]
 pub struct Table {
     pub(crate) bytes: Vec<u8>,
-    pub(crate) records: Vec<Record>,
-    pub(crate) plan: Plan,
-    ghost accepted: { ∥ Accepted bytes.items (entries_of records) plan ∥₁ },
+    pub(crate) content: Content,
+    pub ghost accepted: { ∥ Accepted bytes.items content ∥₁ },
 }

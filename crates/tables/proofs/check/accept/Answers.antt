@@ -8,8 +8,9 @@ use Rattle.syntax.specs.declared.record.Record.{Record}
 use Rattle.syntax.specs.Entries.{entry_of, entries_of}
 use Rattle.tables.specs.Reading.{checked}
 use Rattle.walks.specs.declared.edge.SheetEntry.{SheetEntry}
-use Rattle.tables.specs.Checking.{Admits}
-use Rattle.tables.proofs.Passing.{written_law, order_of, starved, plan_stopped, plan_accepts}
+use Rattle.schedule.specs.declared.plan.Plan.{Plan}
+use Rattle.tables.specs.Checking.{Admits, Accepts}
+use Rattle.tables.proofs.Passing.{written_law, order_of, starved, plan_stopped, plan_accepts, accepted, holds}
 use Rattle.tables.proofs.check.accept.Goals as goal
 
 pub invariant_of-ordered : goal.invariant_of-ordered
@@ -35,22 +36,31 @@ returns-in_err-bytes c =
     rw (p.1, p.2)
     (search rules ∙ c.in_ok-plan.ensures.scheduled.0, starved bytes (entries_of c.in_ok-records.records) c.args.sheet.now (written_law bytes c.type_inv.bytes) c.in_ok-records.ensures c.if-sheet-lt-LEAST_SHEET.false)
 
+pub new-requires : goal.new-requires
+new-requires c = subst (λ (l : List Record). Planned (map entry_of l) c.in_ok-plan.plan) c.deref.ensures.value c.in_ok-plan.ensures.scheduled.1
+
+pub returns-in_err-content : goal.returns-in_err-content
+returns-in_err-content c =
+    let p = err_from_is_err_and c.from_residual-in_err-content.result c.from_residual-in_err-content.ensures.1 in
+    let bytes = c.args.bytes.now in
+    rw (p.1, p.2)
+    (search rules ∙ c.in_ok-plan.ensures.scheduled.0, starved bytes (entries_of c.in_ok-records.records) c.args.sheet.now (written_law bytes c.type_inv.bytes) c.in_ok-records.ensures c.if-sheet-lt-LEAST_SHEET.false)
+
 pub invariant_of-result : goal.invariant_of-result
 invariant_of-result c =
-    let same : vec_items c.in_ok-bytes.bytes ≡ c.args.bytes.now = search rules in record {
-      accepted = ∣ record {
-        order = ap checked same ∙ c.in_ok-records.ensures;
-        planned = subst (λ (l : List Record). Planned (map entry_of l) c.in_ok-plan.plan) c.deref.ensures.value c.in_ok-plan.ensures.scheduled.1;
-        small = c.in_ok-plan.ensures.scheduled.2;
-      } ∣₁;
-    }
+    let same : vec_items c.in_ok-bytes.bytes ≡ c.args.bytes.now = search rules in
+    let planned = subst (λ (l : List Record). Planned (map entry_of l) c.in_ok-plan.plan) c.deref.ensures.value c.in_ok-plan.ensures.scheduled.1 in
+    let order = order_of c.args.bytes.now (entries_of c.in_ok-records.records) (written_law c.args.bytes.now c.type_inv.bytes) c.in_ok-records.ensures in
+    record { accepted = ∣ accepted (vec_items c.in_ok-bytes.bytes) (entries_of c.in_ok-records.records) (ap checked same ∙ c.in_ok-records.ensures) c.in_ok-plan.plan c.in_ok-content.content c.in_ok-content.ensures order planned c.in_ok-plan.ensures.scheduled.2 ∣₁ }
 
 pub returns : goal.returns
 returns c =
+    let rs = entries_of c.in_ok-records.records in
     let same : vec_items c.in_ok-bytes.bytes ≡ c.args.bytes.now = search rules in
-    let planned = subst (λ (l : List Record). Planned (map entry_of l) c.in_ok-plan.plan) c.deref.ensures.value c.in_ok-plan.ensures.scheduled.1 in (
+    let planned = subst (λ (l : List Record). Planned (map entry_of l) c.in_ok-plan.plan) c.deref.ensures.value c.in_ok-plan.ensures.scheduled.1 in
+    let made = c.in_ok-content.ensures.1 in (
       c.if-sheet-lt-LEAST_SHEET.false,
       search rules ∙ c.in_ok-plan.ensures.scheduled.0,
-      plan_accepts c.args.bytes.now (entries_of c.in_ok-records.records) c.in_ok-plan.plan c.in_ok-records.ensures planned c.in_ok-plan.ensures.scheduled.2,
-      record { bytes_are = same; records_are = c.in_ok-records.ensures; counts_are = refl },
+      subst (λ (q : Plan). Accepts c.args.bytes.now q.counts) (sym made) (plan_accepts c.args.bytes.now rs c.in_ok-plan.plan c.in_ok-records.ensures planned c.in_ok-plan.ensures.scheduled.2),
+      holds c.args.bytes.now rs c.in_ok-records.ensures _ _ same refl,
     )

@@ -1,0 +1,79 @@
+-- What follows from what is known of a table. Assumes nothing.
+use Rattle.std.proofs.Common.{◌≡◌, ℕ, ◌+◌, ◌<◌, ◌≤◌, List, [], ◌∷◌, ◌++◌, length, map, get_or, Ok, refl, sym, ap, ◌∙◌, arith}
+use Rattle.std.proofs.lemmas.List.{length-map, get_or_default, get_or-map, get_or_append_left, get_or-append-add}
+use Rattle.syntax.specs.declared.record.Kind.TheVariants as kind
+use Rattle.syntax.specs.Entries.{Entry, count}
+use Rattle.syntax.specs.Entries as entry
+use Rattle.values.specs.declared.types.«Type».{«Type» as Ty}
+use Rattle.typing.specs.Judging.{types_in}
+use Rattle.typing.specs.Scopes.{channel_types, stream_types}
+use Rattle.schedule.specs.Graphs.{channel, stream}
+use Rattle.schedule.specs.Plans.{ring_in, ring_of, no_ring}
+use Rattle.schedule.specs.Serving.{Serves}
+use Rattle.schedule.proofs.Standing.{orderly}
+use Rattle.schedule.proofs.Serving.{serves}
+use Rattle.tables.specs.declared.content.Channel.{Channel}
+use Rattle.tables.specs.declared.content.Stream.{Stream}
+use Rattle.tables.specs.declared.table.Table.{Table}
+use Rattle.tables.specs.Contents.{of_kind, channel_entry, stream_entry, rule_entry, channel_rings, stream_rings}
+use Rattle.tables.specs.Tables.{bytes_of, records_of, channels_of, streams_of, rules_of, plan_of, IsAccepted}
+use Rattle.tables.proofs.Passing.{passes}
+use Rattle.tables.proofs.Sorting.{length_of_kind}
+
+-- ---- the types of the records of a kind
+types_of_channels : (rs : List Entry) → channel_types (of_kind kind.Channel rs) ≡ channel_types rs
+types_of_channels [] = refl
+types_of_channels (entry.channel t ∷ rs) = ap (λ l. t ∷ l) (types_of_channels rs)
+types_of_channels (entry.stream t vs e ∷ rs) = types_of_channels rs
+types_of_channels (entry.rule g es ∷ rs) = types_of_channels rs
+
+types_of_streams : (rs : List Entry) → stream_types (of_kind kind.Stream rs) ≡ stream_types rs
+types_of_streams [] = refl
+types_of_streams (entry.channel t ∷ rs) = types_of_streams rs
+types_of_streams (entry.stream t vs e ∷ rs) = ap (λ l. t ∷ l) (types_of_streams rs)
+types_of_streams (entry.rule g es ∷ rs) = types_of_streams rs
+
+types_by_channel : (cs : List Channel) → map (λ c. c.ty) cs ≡ channel_types (map channel_entry cs)
+types_by_channel [] = refl
+types_by_channel (c ∷ cs) = ap (λ l. c.ty ∷ l) (types_by_channel cs)
+
+types_by_stream : (ss : List Stream) → map (λ s. s.ty) ss ≡ stream_types (map stream_entry ss)
+types_by_stream [] = refl
+types_by_stream (s ∷ ss) = ap (λ l. s.ty ∷ l) (types_by_stream ss)
+
+module _ (t : Table) (a : IsAccepted t) where
+  pub well_typed : types_in (records_of t) ≡ Ok tt
+  well_typed = (passes (bytes_of t) (records_of t) a.passed).typed
+
+  -- ---- as many as the records have, of their types
+  pub channel_count : length (channels_of t) ≡ count kind.Channel (records_of t)
+  channel_count = sym (length-map (channels_of t) channel_entry) ∙ ap length a.sorts.kinds.channels_are ∙ length_of_kind kind.Channel (records_of t)
+
+  pub stream_count : length (streams_of t) ≡ count kind.Stream (records_of t)
+  stream_count = sym (length-map (streams_of t) stream_entry) ∙ ap length a.sorts.kinds.streams_are ∙ length_of_kind kind.Stream (records_of t)
+
+  pub rule_count : length (rules_of t) ≡ count kind.Rule (records_of t)
+  rule_count = sym (length-map (rules_of t) rule_entry) ∙ ap length a.sorts.kinds.rules_are ∙ length_of_kind kind.Rule (records_of t)
+
+  pub types_of_its_channels : map (λ c. c.ty) (channels_of t) ≡ channel_types (records_of t)
+  types_of_its_channels = types_by_channel (channels_of t) ∙ ap channel_types a.sorts.kinds.channels_are ∙ types_of_channels (records_of t)
+
+  pub types_of_its_streams : map (λ s. s.ty) (streams_of t) ≡ stream_types (records_of t)
+  types_of_its_streams = types_by_stream (streams_of t) ∙ ap stream_types a.sorts.kinds.streams_are ∙ types_of_streams (records_of t)
+
+  -- ---- what a tick reads of its rings and its order
+  pub serves_its_references : Serves (records_of t) (plan_of t)
+  serves_its_references = serves (records_of t) (orderly (records_of t) a.in_order) (plan_of t) a.planned
+
+  module _ (n : ℕ) where
+    pub ring_of_channel : (c : Channel) → n < length (channels_of t) → (get_or (channels_of t) n c).ring ≡ ring_of (plan_of t) (channel n)
+    ring_of_channel c inside = sym (get_or-map (λ (x : Channel). x.ring) (channels_of t) n c no_ring inside)
+        ∙ sym (get_or_append_left (channel_rings (channels_of t)) (stream_rings (streams_of t)) no_ring n (omega (arith, length-map (channels_of t) (λ (x : Channel). x.ring))))
+
+    pub ring_of_stream : (s : Stream) → n < length (streams_of t) → (get_or (streams_of t) n s).ring ≡ ring_of (plan_of t) (stream n)
+    ring_of_stream s inside =
+        let rings = channel_rings (channels_of t) in
+        let first : length rings ≡ (plan_of t).counts.records.channels = omega (arith, length-map (channels_of t) (λ (x : Channel). x.ring), channel_count, ap (λ c. c.records.channels) a.planned.counts) in
+        sym (get_or-map (λ (x : Stream). x.ring) (streams_of t) n s no_ring inside)
+        ∙ sym (get_or-append-add rings (stream_rings (streams_of t)) n no_ring)
+        ∙ ap (λ i. ring_in (plan_of t) (i + n)) first

@@ -1,0 +1,42 @@
+use Rattle.std.proofs.Common.{◌≡◌, ◌+◌, ◌++◌, List, length, map, subst, ap, refl, vec_items, arith, rules}
+use Rattle.schedule.specs.declared.plan.Plan.{Plan}
+use Rattle.schedule.specs.declared.plan.Ring.{Ring}
+use Rattle.syntax.specs.declared.record.Record.{Record}
+use Rattle.syntax.specs.Entries.{entry_of, entries_of}
+use Rattle.tables.specs.Contents.{stream_entry}
+use Rattle.tables.proofs.Sorting.{Sorted, taken, taken_all, channel_room, stream_room, more_channel, more_stream, rings_are}
+use Rattle.tables.proofs.content.Content.new.Goals as goal
+
+pub bounds-deref-len : goal.bounds-deref-len
+bounds-deref-len c =
+    let front = taken (vec_items c.args.records) c.into_iter-record-iterator.result c.loop-record.record-iterator c.next.new.self c.loop-record.yielded c.next.result c.in-Some.record (search rules) (search rules) c.loop-record.yielded_by c.in-Some.is c.next.ensures.steps in
+    let room = channel_room c.loop-record.yielded c.in-Some.record _ _ _ _ _ _ c.loop-record.invariant (vec_items c.args.records) front c.args.plan c.requires c.in-Channel.ty c.in-Channel.is refl in
+    omega (arith, room, ap length c.deref.ensures.0, c.len.ensures, c.loop-record.channels.ok.0)
+
+pub loop-record-preserved-in-Continue-branch-4 : goal.loop-record-preserved-in-Continue-branch-4
+loop-record-preserved-in-Continue-branch-4 c =
+    let front = taken (vec_items c.args.records) c.into_iter-record-iterator.result c.loop-record.record-iterator c.next.new.self c.loop-record.yielded c.next.result c.in-Some.record (search rules) (search rules) c.loop-record.yielded_by c.in-Some.is c.next.ensures.steps in
+    let room = channel_room c.loop-record.yielded c.in-Some.record _ _ _ _ _ _ c.loop-record.invariant (vec_items c.args.records) front c.args.plan c.requires c.in-Channel.ty c.in-Channel.is refl in
+    more_channel c.loop-record.yielded c.in-Some.record _ _ _ _ _ _ c.loop-record.invariant _ _ c.in_ok-push-in-Channel.ensures.items c.in-Channel.is (cc (c.deref.ensures.0, c.len.ensures, c.loop-record.channels.ok.0)) room
+
+pub bounds-deref-counts : goal.bounds-deref-counts
+bounds-deref-counts c =
+    let front = taken (vec_items c.args.records) c.into_iter-record-iterator.result c.loop-record.record-iterator c.next.new.self c.loop-record.yielded c.next.result c.in-Some.record (search rules) (search rules) c.loop-record.yielded_by c.in-Some.is c.next.ensures.steps in
+    let room = stream_room c.loop-record.yielded c.in-Some.record _ _ _ _ _ _ c.loop-record.invariant (vec_items c.args.records) front c.args.plan c.requires c.in-Stream.field-0 c.in-Stream.is refl refl in
+    omega (arith, room, ap length c.deref-in-Stream.ensures.0, c.len-in-Stream.ensures, c.loop-record.streams.ok.0)
+
+pub loop-record-preserved-in-Continue-branch-5 : goal.loop-record-preserved-in-Continue-branch-5
+loop-record-preserved-in-Continue-branch-5 c =
+    let front = taken (vec_items c.args.records) c.into_iter-record-iterator.result c.loop-record.record-iterator c.next.new.self c.loop-record.yielded c.next.result c.in-Some.record (search rules) (search rules) c.loop-record.yielded_by c.in-Some.is c.next.ensures.steps in
+    let room = stream_room c.loop-record.yielded c.in-Some.record _ _ _ _ _ _ c.loop-record.invariant (vec_items c.args.records) front c.args.plan c.requires c.in-Stream.field-0 c.in-Stream.is refl refl in
+    more_stream c.loop-record.yielded c.in-Some.record _ _ _ _ _ _ c.loop-record.invariant _ _ _ c.in_ok-push-in-Stream.ensures.items (ap entry_of c.in-Stream.is) (cc (c.deref-in-Stream.ensures.0, c.len-in-Stream.ensures, c.loop-record.streams.ok.0)) room (search rules)
+
+pub returns : goal.returns
+returns c =
+    let all = taken_all (vec_items c.args.records) c.into_iter-record-iterator.result c.loop-record.record-iterator c.next.new.self c.loop-record.yielded c.next.result (search rules) (search rules) c.loop-record.yielded_by c.in-None.is c.next.ensures.steps in
+    let p = c.args.plan in
+    let sorted = subst (λ (l : List Record). Sorted (map entry_of l) p.rings.items p.counts.records.channels c.loop-record.channels.items c.loop-record.streams.items c.loop-record.rules.items c.loop-record.greatest_lead) all c.loop-record.invariant in
+    let rings = rings_are (entries_of c.args.records) p c.requires _ _ _ _ sorted in (
+      record { kinds = sorted.kinds; greatest = sorted.greatest },
+      ap (λ (l : List Ring). record { counts = p.counts; order = p.order; rings = record { items = l } }) rings,
+    )
