@@ -1,0 +1,3 @@
+pub mod Equations
+pub mod Alarms
+pub mod Laws
