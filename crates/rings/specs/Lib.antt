@@ -1,0 +1,4 @@
+pub mod Systems
+pub mod Memory
+pub mod Calls
+pub mod Steps
