@@ -1,8 +1,9 @@
 -- The alarms that a set of values calls. Assumes nothing.
-use Rattle.std.specs.Prelude.{ℕ, zero, suc, ◌+◌, if◌then◌else◌, List, [], ◌∷◌, ◌++◌, map}
+use Rattle.std.specs.Prelude.{ℕ, zero, suc, ◌+◌, false, if◌then◌else◌, List, [], ◌∷◌, ◌++◌, map, slice_index_or}
 use Rattle.values.specs.declared.value.Value.{Value}
+use Rattle.values.specs.declared.value.Value.TheVariants.{Bool}
 use Rattle.operators.specs.Operators.{truth}
-use Rattle.syntax.specs.Trees.{Exp}
+use Rattle.syntax.specs.Trees.{Exp, constant}
 use Rattle.syntax.specs.Entries.{Entry}
 use Rattle.syntax.specs.Entries as entry
 use Rattle.evaluation.specs.Meaning.{Samples, Values, meaning}
@@ -18,6 +19,13 @@ rules [] = []
 rules (entry.channel t ∷ rs) = rules rs
 rules (entry.stream t vs e ∷ rs) = rules rs
 rules (entry.rule g es ∷ rs) = record { guard = g; arguments = es } ∷ rules rs
+
+abbrev pub no_rule : Rule
+no_rule = record { guard = constant 0 (Bool false); arguments = [] }
+
+-- the k-th rule
+abbrev pub rule_of : List Entry → ℕ → Rule
+rule_of rs k = slice_index_or (rules rs) k no_rule
 
 -- an alarm that is called: at which tick, by which rule, and with which arguments
 pub record Call : Type 0 where

@@ -10,6 +10,7 @@ use Rattle.names.specs.Uses.{uses}
 use Rattle.references.specs.declared.reference.Id.{Id}
 use Rattle.schedule.specs.Graphs.{channel, stream}
 use Rattle.equations.specs.Equations.{equation_of, opening_of}
+use Rattle.equations.specs.Alarms.{Rule, rules}
 use Rattle.equations.proofs.Sound.{Reads}
 use Rattle.rings.specs.Systems.{System, HasRing}
 
@@ -22,9 +23,15 @@ Keeps S lead opening (name.Stream q d) = S.lead q + opening < lead + d + S.size 
 abbrev pub AllFit : System → (ℕ → ℕ) → ℕ → ℕ → ℕ → Exp → Type 0
 AllFit S ranks lead opening rank e = AllByRecursion (λ u. Reads S.records S.lead ranks lead opening rank u.name × Keeps S lead opening u.name) (uses e)
 
+-- and so of a rule, which has no lead and no opening values, and comes after every stream
+pub record RuleFits (S : System) (ranks : ℕ → ℕ) (r : Rule) : Type 0 where
+  pub guard : AllFit S ranks 0 0 (count Stream S.records) r.guard
+  pub arguments : AllByRecursion (AllFit S ranks 0 0 (count Stream S.records)) r.arguments
+
 -- rings that hold what is read, lie apart, and within the slots; and an order that has the stream of each rank
 pub record Fitting (S : System) (order : List ℕ) (rank : ℕ → ℕ) (top : ℕ) : Type 0 where
   pub reads : (s : ℕ) → s < count Stream S.records → AllFit S rank (S.lead s) (opening_of S.records s) (rank s) (equation_of S.records s).body
+  pub rules : AllByRecursion (RuleFits S rank) (rules S.records)
   pub most : (s : ℕ) → s < count Stream S.records → S.lead s ≤ top
   pub some : (id : Id) → HasRing S id → 0 < S.size id
   pub within : (id : Id) → HasRing S id → S.base id + S.size id ≤ S.slots

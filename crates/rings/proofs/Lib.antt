@@ -1,3 +1,5 @@
 pub mod Fitting
 pub mod Ring
 pub mod Passing
+pub mod Only
+pub mod Laws

@@ -1,0 +1,86 @@
+-- Judging makes one memory of what was there. Assumes nothing.
+use Rattle.std.proofs.Common.{◌≡◌, ℕ, zero, suc, ◌+◌, ◌-◌, ◌%◌, ◌<◌, ◌≤◌, List, length, get_or, pos, sym, ap, ◌∙◌, inl, inr, arith, mod-lt}
+use Rattle.std.proofs.ByRecursion.{All-weaker}
+use Rattle.std.proofs.lemmas.Bool.{cases_eq}
+use Rattle.std.proofs.lemmas.List.{ext_get_or}
+use Rattle.values.specs.Values.{wrap, word}
+use Rattle.syntax.specs.declared.record.Kind.TheVariants.{Channel, Stream}
+use Rattle.syntax.specs.Entries.{count}
+use Rattle.names.specs.declared.uses.Name.{Name}
+use Rattle.names.specs.declared.uses.Name.TheVariants as name
+use Rattle.names.specs.Uses.{uses}
+use Rattle.schedule.specs.Graphs.{channel, stream}
+use Rattle.evaluation.specs.Meaning.{Same}
+use Rattle.equations.specs.Equations.{channel_type, equation_of, opening_of}
+use Rattle.equations.proofs.Reading.{same_equation}
+use Rattle.equations.proofs.Sound.{Reads}
+use Rattle.rings.specs.Systems.{System, slot}
+use Rattle.rings.specs.Memory.{samples_in, values_in}
+use Rattle.rings.specs.Calls.{Judges}
+use Rattle.rings.proofs.Fitting.{Keeps, Fitting}
+use Rattle.rings.proofs.Ring.{slots_apart}
+use Rattle.rings.proofs.Passing.{channel_apart, stream_apart}
+
+-- k is one of f 0 to f (n - 1), or none of them
+data Among (f : ℕ → ℕ) (n k : ℕ) : Type 0 where
+  one : (s : ℕ) → s < n → k ≡ f s → Among f n k
+  none : ((s : ℕ) → s < n → ¬ (k ≡ f s)) → Among f n k
+
+among : (f : ℕ → ℕ) (n k : ℕ) → Among f n k
+among f zero k = none (λ s l e. omega (arith, l))
+among f (suc n) k = elim (cases_eq k (f n)) [
+  | inl e ↦ one n (omega arith) e
+  | inr ne ↦ elim (among f n k) [
+    | one s l e ↦ one s (omega (arith, l)) e
+    | none h ↦ none (λ s l e. elim (cases_eq s n) [ inl is ↦ ne (e ∙ ap f is) | inr other ↦ h s (omega (arith, l, other)) e ])
+  ]
+]
+
+module _ (S : System) (order : List ℕ) (rank : ℕ → ℕ) (top : ℕ) (fitting : Fitting S order rank top) (n : ℕ) (old a b : List ℕ) (ja : Judges S n old a) (jb : Judges S n old b) where
+  abbrev streams : ℕ
+  streams = count Stream S.records
+
+  -- where stream s has its newest value
+  abbrev place : ℕ → ℕ
+  place s = slot S (stream s) (n + S.lead s)
+
+  -- elsewhere both are as before
+  elsewhere : (k : ℕ) → ((s : ℕ) → s < streams → ¬ (k ≡ place s)) → get_or a k 0 ≡ get_or b k 0
+  elsewhere k ne = ja.others k ne ∙ sym (jb.others k ne)
+
+  module _ (s : ℕ) (l : s < streams) (lower : (q : ℕ) → q < streams → rank q < rank s → get_or a (place q) 0 ≡ get_or b (place q) 0) where
+    abbrev p : ℕ
+    p = n + S.lead s - opening_of S.records s
+
+    one_name : opening_of S.records s ≤ n + S.lead s → (m : Name) →
+        Reads S.records S.lead rank (S.lead s) (opening_of S.records s) (rank s) m × Keeps S (S.lead s) (opening_of S.records s) m → Same (samples_in S a) (values_in S a) (samples_in S b) (values_in S b) p m
+    one_name h (name.Channel c) f =
+        ap (λ (w : ℕ). wrap (channel_type S.records c) (pos w))
+        (elsewhere (slot S (channel c) p) (λ q lq. channel_apart S order rank top fitting c q (p % S.size (channel c)) (n + S.lead q) f.0.known lq (mod-lt p (fitting.some (channel c) f.0.known))))
+    one_name h (name.Stream q d) f = ap (λ (w : ℕ). wrap (equation_of S.records q).ty (pos w)) (elim (cases_eq (p + d) (n + S.lead q)) [
+      | inl e ↦
+          ap (λ (i : ℕ). get_or a (slot S (stream q) i) 0) e ∙ lower q f.0.known (f.0.before (omega (arith, e, h))) ∙ ap (λ (i : ℕ). get_or b (slot S (stream q) i) 0) (sym e)
+      | inr ne ↦ elsewhere (slot S (stream q) (p + d)) (λ t lt e. elim (cases_eq q t) [
+        | inl is ↦
+            let here : slot S (stream q) (p + d) ≡ place q = e ∙ ap place (sym is) in
+            ne (slots_apart (S.size (stream q)) (p + d) (n + S.lead q) (omega (arith, h, f.0.ahead)) (omega (arith, h, f.1)) (omega (arith, here)))
+        | inr other ↦ stream_apart S order rank top fitting q t ((p + d) % S.size (stream q)) (n + S.lead t) f.0.known lt (mod-lt (p + d) (fitting.some (stream q) f.0.known)) other e
+      ])
+    ])
+
+    at_place : get_or a (place s) 0 ≡ get_or b (place s) 0
+    at_place =
+        ja.stored s l ∙
+        ap word (same_equation S.records (samples_in S a) (values_in S a) (samples_in S b) (values_in S b) s (n + S.lead s)
+        (λ h. All-weaker _ _ (λ u. one_name h u.name) (uses (equation_of S.records s).body) (fitting.reads s l))) ∙
+        sym (jb.stored s l)
+
+  at_places : (f s : ℕ) → s < streams → rank s < f → get_or a (place s) 0 ≡ get_or b (place s) 0
+  at_places zero s l h = absurd (omega (arith, h))
+  at_places (suc f) s l h = at_place s l (λ q lq r. at_places f q lq (omega (arith, r, h)))
+
+  pub one_memory : a ≡ b
+  one_memory = ext_get_or 0 a b (ja.long ∙ sym jb.long) (λ k _. elim (among place streams k) [
+    | one s l e ↦ ap (λ (i : ℕ). get_or a i 0) e ∙ at_places (suc (rank s)) s l (omega arith) ∙ ap (λ (i : ℕ). get_or b i 0) (sym e)
+    | none h ↦ elsewhere k h
+  ])

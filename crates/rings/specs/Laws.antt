@@ -1,0 +1,35 @@
+-- What the rings hold after each call, and what is read off them then, by the one set of values; for every history of samples. Assumes nothing.
+use Rattle.std.specs.Prelude.{◌≡◌, ℕ, ◌+◌, ◌<◌, List, length, map}
+use Rattle.values.specs.declared.value.Value.{Value}
+use Rattle.syntax.specs.declared.record.Kind.TheVariants.{Channel, Stream}
+use Rattle.syntax.specs.Entries.{count}
+use Rattle.evaluation.specs.Meaning.{Samples, Values, meaning}
+use Rattle.equations.specs.Equations.{TypedSamples, Meets}
+use Rattle.equations.specs.Alarms.{Rule, rules, rule_of, called_at}
+use Rattle.rings.specs.Systems.{System}
+use Rattle.rings.specs.Memory.{samples_in, values_in, HoldsValues}
+use Rattle.rings.specs.Calls.{OpensRings, StoresSamples, Judges}
+
+-- a rule's guard and arguments have one value over two sources at p
+pub record SameRule (x : Samples) (v : Values) (y : Samples) (w : Values) (p : ℕ) (r : Rule) : Type 0 where
+  pub guard : meaning x v p r.guard ≡ meaning y w p r.guard
+  pub arguments : map (meaning x v p) r.arguments ≡ map (meaning y w p) r.arguments
+
+pub record Lawful (S : System) : Type 0 where
+  -- opened rings hold the values of no tick
+  pub opens : (x : Samples) (old new : List ℕ) → OpensRings S old new → HoldsValues S x 0 0 new
+  -- the samples of the tick n join those of the ticks before it
+  pub samples : (x : Samples) (n : ℕ) (row : ℕ → Value) (old new : List ℕ) → StoresSamples S n row old new →
+      ((c : ℕ) → c < count Channel S.records → row c ≡ x n c) → HoldsValues S x n n old → HoldsValues S x (n + 1) n new
+  -- and the values of the tick n those of the ticks before it
+  pub judges : (x : Samples) (n : ℕ) (old new : List ℕ) → Judges S n old new → TypedSamples S.records x (n + 1) → HoldsValues S x (n + 1) n old → HoldsValues S x (n + 1) (n + 1) new
+  -- judging makes one memory of what was there, whatever that was
+  pub one : (n : ℕ) (old a b : List ℕ) → Judges S n old a → Judges S n old b → a ≡ b
+  -- the newest value of a stream that is read is that of the set
+  pub shows : (x : Samples) (m n : ℕ) (mem : List ℕ) → HoldsValues S x m n mem → (v : Values) → Meets S.records S.lead x n v →
+      (s i : ℕ) → s < count Stream S.records → i + 1 ≡ n + S.lead s → values_in S mem s i ≡ v s i
+  -- what is worked out of the k-th rule at the tick that was just judged is what the set gives, and so are the alarms that are called
+  pub tells : (x : Samples) (n : ℕ) (mem : List ℕ) → HoldsValues S x (n + 1) (n + 1) mem → TypedSamples S.records x (n + 1) → (v : Values) → Meets S.records S.lead x (n + 1) v →
+      (k : ℕ) → k < length (rules S.records) → SameRule (samples_in S mem) (values_in S mem) x v n (rule_of S.records k)
+  pub calls : (x : Samples) (n : ℕ) (mem : List ℕ) → HoldsValues S x (n + 1) (n + 1) mem → TypedSamples S.records x (n + 1) → (v : Values) → Meets S.records S.lead x (n + 1) v →
+      called_at S.records (samples_in S mem) (values_in S mem) n ≡ called_at S.records x v n
