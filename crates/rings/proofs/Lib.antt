@@ -3,3 +3,5 @@ pub mod Ring
 pub mod Passing
 pub mod Only
 pub mod Laws
+pub mod Stepping
+pub mod Opening
