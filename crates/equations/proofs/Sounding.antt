@@ -1,0 +1,120 @@
+-- What the check of a table shows makes its equations sound. Assumes nothing.
+use Rattle.std.proofs.Common.{◌≡◌, ℕ, zero, suc, ◌+◌, ◌-◌, ◌<◌, ◌≤◌, List, [], max, get_or, ℤ, pos, Ok, refl, sym, ap, ◌∙◌, inl, inr, arith}
+use Rattle.std.specs.List.{AllByRecursion}
+use Rattle.std.proofs.ByRecursion.{All-weaker}
+use Rattle.std.proofs.lemmas.Bool.{cases_eq}
+use Rattle.std.proofs.lemmas.Int.{ints}
+use Rattle.values.specs.Values.{HasType}
+use Rattle.syntax.specs.declared.record.Kind.TheVariants.{Channel, Stream}
+use Rattle.syntax.specs.Entries.{Entry, count}
+use Rattle.syntax.specs.Written.{Small}
+use Rattle.names.specs.declared.uses.Name.{Name}
+use Rattle.names.specs.declared.uses.Name.TheVariants as name
+use Rattle.names.specs.Uses.{uses}
+use Rattle.typing.specs.Scopes.{channel_types, stream_types}
+use Rattle.typing.specs.WellTyped.{EntryTyped}
+use Rattle.typing.proofs.WellTyped.{all_typed}
+use Rattle.references.specs.declared.reference.Id.{Id}
+use Rattle.references.specs.References.{reads, refer_name, references}
+use Rattle.walks.specs.Walks.{In}
+use Rattle.schedule.specs.declared.plan.Plan.{Plan}
+use Rattle.schedule.specs.Graphs.{stream, openings}
+use Rattle.schedule.specs.Plans.{lead_in, lead_of}
+use Rattle.schedule.specs.Serving.{Serves}
+use Rattle.schedule.proofs.Carrying.{stands}
+use Rattle.schedule.proofs.Serving.{serves}
+use Rattle.schedule.proofs.Standing.{orderly}
+use Rattle.evaluation.proofs.Ranges.{meaning_typed}
+use Rattle.equations.specs.Equations.{Leads, equation_of, opening_of, Meets, SameValues}
+use Rattle.equations.specs.Laws.{WellPlanned, ExactlyOne, AtMostOne}
+use Rattle.equations.proofs.Listing.{stream_record, of_stream, body_listed, openings_same}
+use Rattle.equations.proofs.Ranking.{place, ranked, order_of}
+use Rattle.equations.proofs.Sound.{Reads, Sound}
+use Rattle.equations.proofs.One.{unique, exists}
+
+-- the greatest of f 0 to f (k - 1)
+greatest : (ℕ → ℕ) → ℕ → ℕ
+greatest f zero = 0
+greatest f (suc k) = max (greatest f k) (f k)
+
+most : (f : ℕ → ℕ) (k s : ℕ) → s < k → f s ≤ greatest f k
+unfolding greatest
+most f zero s l = absurd (omega (arith, l))
+most f (suc k) s l = elim (cases_eq s k) [
+  | inl e ↦ omega (arith, ap f e)
+  | inr n ↦ omega (arith, most f k s (omega (arith, l, n)))
+]
+
+module _ (rs : List Entry) (p : Plan) (w : WellPlanned rs p) where
+  served : Serves rs p
+  served = serves rs (orderly rs w.order) p w.planned
+
+  abbrev pub rank_in : ℕ → ℕ
+  rank_in = place p.order.items
+
+  -- the streams of a rank, and back
+  pub ranks : (s : ℕ) → s < count Stream rs → rank_in s < count Stream rs
+  ranks = ranked (count Stream rs) p.order.items served.order.each
+
+  -- what a reader with this lead and so many opening values names may be read
+  module _ (id : Id) (lead opening rank : ℕ) (leading : lead_of p id ≡ pos lead) (counted : openings rs id ≡ opening)
+      (first : (q d : ℕ) → In (reads id Stream q d) (references [] rs) → q < count Stream rs → lead + d ≡ lead_in p q + opening → rank_in q < rank)
+    where
+      pub name_reads : (n : Name) → In (refer_name id n) (references [] rs) → Reads rs (lead_in p) rank_in lead opening rank n
+      name_reads (name.Channel c) m =
+          let r = reads id Channel c 0 in
+          record { known = (stands rs (orderly rs w.order) r m).read; past = omega (arith, ints, served.sampled r m refl, leading, counted) }
+      name_reads (name.Stream q d) m =
+          let r = reads id Stream q d in
+          let known = (stands rs (orderly rs w.order) r m).read in
+          record { known = known; ahead = omega (arith, ints, (served.finds r m).made, leading, counted); before = first q d m known }
+
+  -- what is read at the index at which its reader works comes before it
+  earlier : (s : ℕ) → s < count Stream rs → (q d : ℕ) → In (reads (stream s) Stream q d) (references [] rs) → q < count Stream rs →
+      lead_in p s + d ≡ lead_in p q + opening_of rs s → rank_in q < rank_in s
+  earlier s l q d m lq e =
+      served.order.before (reads (stream s) Stream q d) m (omega (arith, ints, e, openings_same rs s l)) (rank_in q) (rank_in s) (ranks q lq) (ranks s l)
+      (ap stream (sym (order_of (count Stream rs) p.order.items served.order.each q lq))) (ap stream (sym (order_of (count Stream rs) p.order.items served.order.each s l)))
+
+  pub stream_reads : (s : ℕ) → s < count Stream rs → (n : Name) → In (refer_name (stream s) n) (references [] rs) →
+      Reads rs (lead_in p) rank_in (lead_in p s) (opening_of rs s) (rank_in s) n
+  stream_reads s l = name_reads (stream s) (lead_in p s) (opening_of rs s) (rank_in s) refl (openings_same rs s l) (earlier s l)
+
+  small : (s : ℕ) → s < count Stream rs → Small (stream_record (equation_of rs s))
+  small s l = of_stream Small rs w.order.small s l
+
+  pub sound : Sound rs (lead_in p) rank_in
+  sound = record {
+    top = greatest (lead_in p) (count Stream rs);
+    most = most (lead_in p) (count Stream rs);
+    ranked = ranks;
+    reads = λ s l. All-weaker _ _ (λ u. stream_reads s l u.name) (uses (equation_of rs s).body) (body_listed rs s l);
+    opens = λ s l. (small s l).1;
+    typed = λ s l x v i.
+        meaning_typed (channel_types rs) (stream_types rs) x v i (equation_of rs s).body (equation_of rs s).ty
+        (of_stream (EntryTyped (channel_types rs) (stream_types rs)) rs (all_typed rs w.types) s l) (small s l).2;
+  }
+
+pub exactly_one : ExactlyOne
+exactly_one rs p w x n typed =
+    let s = sound rs p w in
+    let e = exists rs (lead_in p) (rank_in rs p w) s x n typed in
+    record {
+      lead = lead_in p;
+      leads = w.planned.measured.leads;
+      values = e.0;
+      meets = e.1;
+      only = λ v m. unique rs (lead_in p) (rank_in rs p w) s x n v e.0 m e.1;
+    }
+
+-- a stream has one lead
+same_lead : (rs : List Entry) (lead lead' : ℕ → ℕ) → Leads rs lead → Leads rs lead' → (s : ℕ) → s < count Stream rs → lead s ≡ lead' s
+same_lead rs lead lead' f g s l =
+    let (a, v, goes, weighs) = (f s l).reached in
+    let (b, w, goes', weighs') = (g s l).reached in
+    omega (arith, ints, (g s l).most a v goes, (f s l).most b w goes', weighs, weighs')
+
+pub at_most_one : AtMostOne
+at_most_one rs p w lead leads x n v u mv mu s i l h =
+    let same = same_lead rs lead (lead_in p) leads w.planned.measured.leads in
+    unique rs (lead_in p) (rank_in rs p w) (sound rs p w) x n v u (λ t k lt lk. mv t k lt (omega (arith, lk, same t lt))) (λ t k lt lk. mu t k lt (omega (arith, lk, same t lt))) s i l (omega (arith, h, same s l))
