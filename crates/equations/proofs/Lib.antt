@@ -1,4 +1,6 @@
 pub mod Listing
+pub mod Ranking
 pub mod Reading
 pub mod Sound
 pub mod One
+pub mod Sounding

@@ -35,10 +35,10 @@ rule_record r = entry.rule r.guard r.arguments
 
 pub of_stream : (P : Entry → Type 0) (rs : List Entry) → AllByRecursion P rs → (s : ℕ) → s < count Stream rs → P (stream_record (equation_of rs s))
 of_stream P [] all s l = absurd (omega arith)
-of_stream P (entry.channel t ∷ rs) all s l = of_stream P rs all.1 s l
+of_stream P (entry.channel t ∷ rs) all s l = of_stream P rs all.1 s (omega (arith, l))
 of_stream P (entry.stream t vs e ∷ rs) all zero l = all.0
 of_stream P (entry.stream t vs e ∷ rs) all (suc s) l = of_stream P rs all.1 s (omega arith)
-of_stream P (entry.rule g es ∷ rs) all s l = of_stream P rs all.1 s l
+of_stream P (entry.rule g es ∷ rs) all s l = of_stream P rs all.1 s (omega (arith, l))
 
 -- ---- the references that bodies, guards and arguments make
 all_in_self : {X : Type 0} (ys xs : List X) → ((x : X) → In x xs → In x ys) → AllByRecursion (λ x. In x ys) xs
@@ -64,7 +64,7 @@ module _ (P : Reference → Type 0) where
   from_body before [] all s l = absurd (omega arith)
   from_body before (entry.channel t ∷ rs) all s l =
       let same : count Stream (before ++ (entry.channel t ∷ [])) + s ≡ count Stream before + s = omega (arith, count_append Stream before (entry.channel t ∷ [])) in
-      subst (λ (n : ℕ). Of n (equation_of rs s)) same (from_body (before ++ (entry.channel t ∷ [])) rs all s l)
+      subst (λ (n : ℕ). Of n (equation_of rs s)) same (from_body (before ++ (entry.channel t ∷ [])) rs all s (omega (arith, l)))
   from_body before (entry.stream t vs e ∷ rs) all zero l =
       let same : count Stream before ≡ count Stream before + zero = omega arith in
       subst (λ (n : ℕ). AllByRecursion P (map (refer (stream n)) (uses e))) same (all_left P (map (refer (stream (count Stream before))) (uses e)) (references (before ++ (entry.stream t vs e ∷ [])) rs) all)
@@ -75,7 +75,7 @@ module _ (P : Reference → Type 0) where
   from_body before (entry.rule g es ∷ rs) all s l =
       let same : count Stream (before ++ (entry.rule g es ∷ [])) + s ≡ count Stream before + s = omega (arith, count_append Stream before (entry.rule g es ∷ [])) in
       subst (λ (n : ℕ). Of n (equation_of rs s)) same
-      (from_body (before ++ (entry.rule g es ∷ [])) rs (all_right P (map (refer (id_after before (entry.rule g es))) (uses g ++ gathered uses es)) (references (before ++ (entry.rule g es ∷ [])) rs) all) s l)
+      (from_body (before ++ (entry.rule g es ∷ [])) rs (all_right P (map (refer (id_after before (entry.rule g es))) (uses g ++ gathered uses es)) (references (before ++ (entry.rule g es ∷ [])) rs) all) s (omega (arith, l)))
 
   from_rules : (before rs : List Entry) → AllByRecursion P (references before rs) → AllByRecursion (ReadsAs P) (rules rs)
   from_rules before [] all = tt
@@ -86,9 +86,10 @@ module _ (P : Reference → Type 0) where
       let n = count Rule before in
       let here = map (refer (rule n)) (uses g ++ gathered uses es) in
       let rest = references (before ++ (entry.rule g es ∷ [])) rs in
-      let mine = all_unmap P (refer (rule n)) (uses g ++ gathered uses es) (all_left P here rest all) in
-      ((n, all_left (λ u. P (refer (rule n) u)) (uses g) (gathered uses es) mine, all_right (λ u. P (refer (rule n) u)) (uses g) (gathered uses es) mine),
-      from_rules (before ++ (entry.rule g es ∷ [])) rs (all_right P here rest all))
+      let mine = all_unmap P (refer (rule n)) (uses g ++ gathered uses es) (all_left P here rest all) in (
+        (n, all_left (λ u. P (refer (rule n) u)) (uses g) (gathered uses es) mine, all_right (λ u. P (refer (rule n) u)) (uses g) (gathered uses es) mine),
+        from_rules (before ++ (entry.rule g es ∷ [])) rs (all_right P here rest all),
+      )
 
 module _ (rs : List Entry) where
   abbrev pub Listed : Reference → Type 0
@@ -118,13 +119,13 @@ counted_more r rs (Some m) = let e : m + 1 ≡ suc m = omega arith in ap (λ (k 
 pub openings_same : (rs : List Entry) (s : ℕ) → s < count Stream rs → openings rs (stream s) ≡ opening_of rs s
 unfolding openings
 openings_same [] s l = absurd (omega arith)
-openings_same (entry.channel t ∷ rs) s l = counted_more (entry.channel t) rs (position Stream s rs) ∙ openings_same rs s l
+openings_same (entry.channel t ∷ rs) s l = counted_more (entry.channel t) rs (position Stream s rs) ∙ openings_same rs s (omega (arith, l))
 openings_same (entry.stream t vs e ∷ rs) zero l = refl
 openings_same (entry.stream t vs e ∷ rs) (suc s) l =
     let down : suc s - 1 ≡ s = omega arith in
     ap (λ (b : Truth). counted_at (entry.stream t vs e ∷ rs) (cond b (Some 0) (option_map (λ m. m + 1) (position Stream (suc s - 1) rs)))) (ne_eqb (suc s) 0 (λ q. omega arith)) ∙
     counted_more (entry.stream t vs e) rs (position Stream (suc s - 1) rs) ∙ ap (λ (k : ℕ). counted_at rs (position Stream k rs)) down ∙ openings_same rs s (omega arith)
-openings_same (entry.rule g es ∷ rs) s l = counted_more (entry.rule g es) rs (position Stream s rs) ∙ openings_same rs s l
+openings_same (entry.rule g es ∷ rs) s l = counted_more (entry.rule g es) rs (position Stream s rs) ∙ openings_same rs s (omega (arith, l))
 
 pub openings_none : (rs : List Entry) (n : ℕ) → openings rs (rule n) ≡ 0
 unfolding openings

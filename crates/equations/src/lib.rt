@@ -1,11 +1,11 @@
-// The equations of a table, and the one set of values that meets them.
+// The equations of a table's streams, and the one set of values that meets them.
 #![tactic(auto)]
 
-ghost use Rattle.std.specs.Prelude.{◌≡◌};
+ghost use Rattle.equations.specs.Laws.{ExactlyOne, AtMostOne};
 
-/// Nothing.
-pub fn nothing(n: u8) -> u8
-    ensures { result ≡ n }
-{
-    n
-}
+/// Does nothing: its contract says that exactly one set of values meets the equations of a table
+/// that the check accepts.
+pub fn laws()
+    ensures one { ExactlyOne }
+    ensures most { AtMostOne }
+{}

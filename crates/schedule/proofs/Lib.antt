@@ -2,7 +2,7 @@ mod Making
 mod Describing
 pub mod Standing
 mod Placing
-mod Carrying
+pub mod Carrying
 mod Measuring
 pub mod Taking
 pub mod Serving

@@ -79,6 +79,10 @@ named_declares channels streams u e = go (declares channels streams u.name) refl
     go false is = absurd (let q : ◌≡◌ {A = ℕ} 0 1 = cc in omega arith)
 
 -- ---- a reference
+pub count_append : (k : Kind) (xs ys : List Entry) → count k (xs ++ ys) ≡ count k xs + count k ys
+count_append k [] ys = omega arith
+count_append k (x ∷ xs) ys = omega (arith, count_append k xs ys)
+
 module _ (whole : List Entry) where
   abbrev Known : Use → Type 0
   Known u = named (count Channel whole) (count Stream whole) u ≡ Ok tt
@@ -105,10 +109,6 @@ module _ (whole : List Entry) where
     refers id u.name valid reads (named_declares (count Channel whole) (count Stream whole) u known.0) close.0,
     refers_all id us valid reads known.1 close.1,
   )
-
-  count_append : (k : Kind) (xs ys : List Entry) → count k (xs ++ ys) ≡ count k xs + count k ys
-  count_append k [] ys = omega arith
-  count_append k (x ∷ xs) ys = omega (arith, count_append k xs ys)
 
   counted_here : (before rest : List Entry) (r : Entry) → whole ≡ before ++ (r ∷ rest) → Valid whole (id_after before r)
   counted_here before rest r is =
