@@ -1,5 +1,6 @@
 pub mod Listing
 pub mod Ranking
+pub mod Greatest
 pub mod Reading
 pub mod Sound
 pub mod One

@@ -1,8 +1,7 @@
 -- What the check of a table shows makes its equations sound. Assumes nothing.
-use Rattle.std.proofs.Common.{◌≡◌, ℕ, zero, suc, ◌+◌, ◌-◌, ◌<◌, ◌≤◌, List, [], max, get_or, ℤ, pos, Ok, refl, sym, ap, ◌∙◌, inl, inr, arith}
+use Rattle.std.proofs.Common.{◌≡◌, ℕ, ◌+◌, ◌<◌, List, [], pos, refl, sym, ap, arith}
 use Rattle.std.specs.List.{AllByRecursion}
 use Rattle.std.proofs.ByRecursion.{All-weaker}
-use Rattle.std.proofs.lemmas.Bool.{cases_eq}
 use Rattle.std.proofs.lemmas.Int.{ints}
 use Rattle.values.specs.Values.{HasType}
 use Rattle.syntax.specs.declared.record.Kind.TheVariants.{Channel, Stream}
@@ -29,24 +28,12 @@ use Rattle.equations.specs.Equations.{Leads, equation_of, opening_of, Meets, Sam
 use Rattle.equations.specs.Laws.{WellPlanned, ExactlyOne, AtMostOne}
 use Rattle.equations.proofs.Listing.{stream_record, of_stream, body_listed, openings_same}
 use Rattle.equations.proofs.Ranking.{place, ranked, order_of}
+use Rattle.equations.proofs.Greatest.{greatest, most}
 use Rattle.equations.proofs.Sound.{Reads, Sound}
 use Rattle.equations.proofs.One.{unique, exists}
 
--- the greatest of f 0 to f (k - 1)
-greatest : (ℕ → ℕ) → ℕ → ℕ
-greatest f zero = 0
-greatest f (suc k) = max (greatest f k) (f k)
-
-most : (f : ℕ → ℕ) (k s : ℕ) → s < k → f s ≤ greatest f k
-unfolding greatest
-most f zero s l = absurd (omega (arith, l))
-most f (suc k) s l = elim (cases_eq s k) [
-  | inl e ↦ omega (arith, ap f e)
-  | inr n ↦ omega (arith, most f k s (omega (arith, l, n)))
-]
-
 module _ (rs : List Entry) (p : Plan) (w : WellPlanned rs p) where
-  served : Serves rs p
+  pub served : Serves rs p
   served = serves rs (orderly rs w.order) p w.planned
 
   abbrev pub rank_in : ℕ → ℕ

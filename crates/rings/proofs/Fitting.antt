@@ -9,10 +9,11 @@ use Rattle.names.specs.declared.uses.Name.TheVariants as name
 use Rattle.names.specs.Uses.{uses}
 use Rattle.references.specs.declared.reference.Id.{Id}
 use Rattle.schedule.specs.Graphs.{channel, stream}
+use Rattle.schedule.specs.Plans.{HasRing}
 use Rattle.equations.specs.Equations.{equation_of, opening_of}
 use Rattle.equations.specs.Alarms.{Rule, rules}
 use Rattle.equations.proofs.Sound.{Reads}
-use Rattle.rings.specs.Systems.{System, HasRing}
+use Rattle.rings.specs.Systems.{System}
 
 -- what a reader with this lead and so many opening values reads is still in its ring
 abbrev pub Keeps : System → ℕ → ℕ → Name → Type 0
@@ -33,9 +34,9 @@ pub record Fitting (S : System) (order : List ℕ) (rank : ℕ → ℕ) (top : �
   pub reads : (s : ℕ) → s < count Stream S.records → AllFit S rank (S.lead s) (opening_of S.records s) (rank s) (equation_of S.records s).body
   pub rules : AllByRecursion (RuleFits S rank) (rules S.records)
   pub most : (s : ℕ) → s < count Stream S.records → S.lead s ≤ top
-  pub some : (id : Id) → HasRing S id → 0 < S.size id
-  pub within : (id : Id) → HasRing S id → S.base id + S.size id ≤ S.slots
-  pub apart : (a b : Id) → HasRing S a → HasRing S b → ¬ (a ≡ b) → (i j : ℕ) → i < S.size a → j < S.size b → ¬ (S.base a + i ≡ S.base b + j)
+  pub some : (id : Id) → HasRing S.records id → 0 < S.size id
+  pub within : (id : Id) → HasRing S.records id → S.base id + S.size id ≤ S.slots
+  pub apart : (a b : Id) → HasRing S.records a → HasRing S.records b → ¬ (a ≡ b) → (i j : ℕ) → i < S.size a → j < S.size b → ¬ (S.base a + i ≡ S.base b + j)
   pub ordered : (k : ℕ) → k < count Stream S.records → slice_index order k < count Stream S.records
   pub rank_of : (k : ℕ) → k < count Stream S.records → rank (slice_index order k) ≡ k
   pub ranked : (s : ℕ) → s < count Stream S.records → rank s < count Stream S.records

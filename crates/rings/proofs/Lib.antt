@@ -1,7 +1,8 @@
 pub mod Fitting
 pub mod Ring
-pub mod Passing
+pub mod Ticking
 pub mod Only
-pub mod Laws
+pub mod Keeping
 pub mod Stepping
 pub mod Opening
+pub mod Tables

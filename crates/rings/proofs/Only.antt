@@ -10,6 +10,7 @@ use Rattle.names.specs.declared.uses.Name.{Name}
 use Rattle.names.specs.declared.uses.Name.TheVariants as name
 use Rattle.names.specs.Uses.{uses}
 use Rattle.schedule.specs.Graphs.{channel, stream}
+use Rattle.schedule.proofs.Taking.{channel_ring, stream_ring}
 use Rattle.evaluation.specs.Meaning.{Same}
 use Rattle.equations.specs.Equations.{channel_type, equation_of, opening_of}
 use Rattle.equations.proofs.Reading.{same_equation}
@@ -19,7 +20,7 @@ use Rattle.rings.specs.Memory.{samples_in, values_in}
 use Rattle.rings.specs.Calls.{Judges}
 use Rattle.rings.proofs.Fitting.{Keeps, Fitting}
 use Rattle.rings.proofs.Ring.{slots_apart}
-use Rattle.rings.proofs.Passing.{channel_apart, stream_apart}
+use Rattle.rings.proofs.Ticking.{channel_apart, stream_apart}
 
 -- k is one of f 0 to f (n - 1), or none of them
 data Among (f : ℕ → ℕ) (n k : ℕ) : Type 0 where
@@ -56,7 +57,7 @@ module _ (S : System) (order : List ℕ) (rank : ℕ → ℕ) (top : ℕ) (fitti
         Reads S.records S.lead rank (S.lead s) (opening_of S.records s) (rank s) m × Keeps S (S.lead s) (opening_of S.records s) m → Same (samples_in S a) (values_in S a) (samples_in S b) (values_in S b) p m
     one_name h (name.Channel c) f =
         ap (λ (w : ℕ). wrap (channel_type S.records c) (pos w))
-        (elsewhere (slot S (channel c) p) (λ q lq. channel_apart S order rank top fitting c q (p % S.size (channel c)) (n + S.lead q) f.0.known lq (mod-lt p (fitting.some (channel c) f.0.known))))
+        (elsewhere (slot S (channel c) p) (λ q lq. channel_apart S order rank top fitting c q (p % S.size (channel c)) (n + S.lead q) f.0.known lq (mod-lt p (fitting.some (channel c) (channel_ring S.records c f.0.known)))))
     one_name h (name.Stream q d) f = ap (λ (w : ℕ). wrap (equation_of S.records q).ty (pos w)) (elim (cases_eq (p + d) (n + S.lead q)) [
       | inl e ↦
           ap (λ (i : ℕ). get_or a (slot S (stream q) i) 0) e ∙ lower q f.0.known (f.0.before (omega (arith, e, h))) ∙ ap (λ (i : ℕ). get_or b (slot S (stream q) i) 0) (sym e)
@@ -64,7 +65,7 @@ module _ (S : System) (order : List ℕ) (rank : ℕ → ℕ) (top : ℕ) (fitti
         | inl is ↦
             let here : slot S (stream q) (p + d) ≡ place q = e ∙ ap place (sym is) in
             ne (slots_apart (S.size (stream q)) (p + d) (n + S.lead q) (omega (arith, h, f.0.ahead)) (omega (arith, h, f.1)) (omega (arith, here)))
-        | inr other ↦ stream_apart S order rank top fitting q t ((p + d) % S.size (stream q)) (n + S.lead t) f.0.known lt (mod-lt (p + d) (fitting.some (stream q) f.0.known)) other e
+        | inr other ↦ stream_apart S order rank top fitting q t ((p + d) % S.size (stream q)) (n + S.lead t) f.0.known lt (mod-lt (p + d) (fitting.some (stream q) (stream_ring S.records q f.0.known))) other e
       ])
     ])
 

@@ -6,16 +6,18 @@ use Rattle.syntax.specs.declared.record.Kind.TheVariants.{Channel, Stream}
 use Rattle.syntax.specs.Entries.{count}
 use Rattle.references.specs.declared.reference.Id.{Id}
 use Rattle.schedule.specs.Graphs.{channel, stream}
+use Rattle.schedule.specs.Plans.{HasRing}
+use Rattle.schedule.proofs.Taking.{channel_ring, stream_ring}
 use Rattle.evaluation.specs.Meaning.{Samples, Values}
 use Rattle.equations.specs.Equations.{equation_of, by_equation, Meets}
-use Rattle.rings.specs.Systems.{System, HasRing, slot}
+use Rattle.rings.specs.Systems.{System, slot}
 use Rattle.rings.specs.Memory.{RingHolds, RingsHold}
 use Rattle.rings.specs.Calls.{OpensRings}
-use Rattle.rings.specs.Steps.{passed, passes, opened}
+use Rattle.rings.specs.Steps.{worked_first, worked_through, opened}
 use Rattle.rings.proofs.Fitting.{Fitting}
 use Rattle.rings.proofs.Ring.{recounted}
-use Rattle.rings.proofs.Passing.{Passes, samples_stay, values_grow}
-use Rattle.rings.proofs.Stepping.{passed_passes}
+use Rattle.rings.proofs.Ticking.{Ticks, samples_stay, values_grow}
+use Rattle.rings.proofs.Stepping.{worked_ticks}
 
 -- a list with its first n entries cleared
 module _ (mem : List ℕ) (n : ℕ) where
@@ -35,14 +37,14 @@ module _ (mem : List ℕ) (n : ℕ) where
 
 module _ (S : System) (order : List ℕ) (rank : ℕ → ℕ) (top : ℕ) (fitting : Fitting S order rank top) (mem : List ℕ) (room : S.slots ≤ length mem) where
   abbrev after : ℕ → List ℕ
-  after u = passes S order top (cleared mem S.slots) u
+  after u = worked_through S order top (cleared mem S.slots) u
 
-  pass : (u : ℕ) → S.slots ≤ length (after u) → Passes S top u (after u) (after (suc u))
-  pass u h = passed_passes S order rank top fitting u (after u) h
+  one_tick : (u : ℕ) → S.slots ≤ length (after u) → Ticks S top u (after u) (after (suc u))
+  one_tick u h = worked_ticks S order rank top fitting u (after u) h
 
   long : (u : ℕ) → length (after u) ≡ length mem
   long zero = cleared_long mem S.slots room
-  long (suc u) = let e = long u in (pass u (omega (arith, e, room))).long ∙ e
+  long (suc u) = let e = long u in (one_tick u (omega (arith, e, room))).long ∙ e
 
   has_room : (u : ℕ) → S.slots ≤ length (after u)
   has_room u = omega (arith, long u, room)
@@ -50,10 +52,10 @@ module _ (S : System) (order : List ℕ) (rank : ℕ → ℕ) (top : ℕ) (fitti
   past : (u k : ℕ) → S.slots ≤ k → get_or (after u) k 0 ≡ get_or mem k 0
   past zero k h = cleared_past mem S.slots k h
   past (suc u) k h =
-      (pass u (has_room u)).others k (λ s l t e. omega (arith, h, e, fitting.within (stream s) l, mod-lt (u + S.lead s - top) (fitting.some (stream s) l))) ∙ past u k h
+      (one_tick u (has_room u)).others k (λ s l t e. omega (arith, h, e, fitting.within (stream s) (stream_ring S.records s l), mod-lt (u + S.lead s - top) (fitting.some (stream s) (stream_ring S.records s l)))) ∙ past u k h
 
   -- cleared rings hold nothing
-  blank : (id : Id) (words : ℕ → ℕ) → HasRing S id → RingHolds S id words 0 (after 0)
+  blank : (id : Id) (words : ℕ → ℕ) → HasRing S.records id → RingHolds S id words 0 (after 0)
   blank id words l = record {
     newest = λ i h k. absurd (omega (arith, h));
     blank = λ j h k. cleared_below mem S.slots (S.base id + j) (omega (arith, h, fitting.within id l));
@@ -67,12 +69,12 @@ module _ (S : System) (order : List ℕ) (rank : ℕ → ℕ) (top : ℕ) (fitti
 
     begun : (u : ℕ) → u ≤ top → Begun u
     begun zero h = record {
-      samples = λ c l. blank (channel c) (λ t. word (x t c)) l;
-      values = λ s l. recounted S (stream s) (λ i. word (v s i)) 0 (zero + S.lead s - top) (after 0) (omega (arith, fitting.most s l)) (blank (stream s) (λ i. word (v s i)) l);
+      samples = λ c l. blank (channel c) (λ t. word (x t c)) (channel_ring S.records c l);
+      values = λ s l. recounted S (stream s) (λ i. word (v s i)) 0 (zero + S.lead s - top) (after 0) (omega (arith, fitting.most s l)) (blank (stream s) (λ i. word (v s i)) (stream_ring S.records s l));
     }
     begun (suc u) h =
         let b = begun u (omega (arith, h)) in
-        let p = pass u (has_room u) in
+        let p = one_tick u (has_room u) in
         let m : 0 ≡ suc u - top = omega (arith, h) in
         record {
           samples = λ c l. samples_stay S order rank top fitting u (after u) (after (suc u)) p x v 0 m (λ t c k. absurd (omega (arith, k))) (met u h) b.samples b.values c l;

@@ -11,6 +11,7 @@ use Rattle.names.specs.declared.uses.Name.TheVariants as name
 use Rattle.names.specs.Uses.{uses}
 use Rattle.references.specs.declared.reference.Id.{Id}
 use Rattle.schedule.specs.Graphs.{channel, stream}
+use Rattle.schedule.proofs.Taking.{channel_ring, stream_ring}
 use Rattle.evaluation.specs.Meaning.{Same}
 use Rattle.equations.specs.Equations.{channel_type, equation_of, opening_of, by_equation}
 use Rattle.equations.proofs.Reading.{same_equation}
@@ -18,11 +19,11 @@ use Rattle.equations.proofs.Sound.{Reads}
 use Rattle.rings.specs.Systems.{System, slot}
 use Rattle.rings.specs.Memory.{samples_in, values_in}
 use Rattle.rings.specs.Calls.{StoresSamples, Judges}
-use Rattle.rings.specs.Steps.{sampled, stored, worked, passed}
+use Rattle.rings.specs.Steps.{stored_samples, worked_first}
 use Rattle.rings.proofs.Fitting.{Keeps, Fitting}
 use Rattle.rings.proofs.Ring.{slots_apart}
-use Rattle.rings.proofs.Passing.{Passes, channel_apart, stream_apart}
-use Rattle.rings.proofs.Laws.{from_passes}
+use Rattle.rings.proofs.Ticking.{Ticks, channel_apart, stream_apart}
+use Rattle.rings.proofs.Keeping.{from_ticks}
 
 module _ (S : System) (order : List ℕ) (rank : ℕ → ℕ) (top : ℕ) (fitting : Fitting S order rank top) where
   abbrev streams : ℕ
@@ -35,7 +36,7 @@ module _ (S : System) (order : List ℕ) (rank : ℕ → ℕ) (top : ℕ) (fitti
   -- ---- judging
   module _ (u : ℕ) (mem : List ℕ) (room : S.slots ≤ length mem) where
     abbrev after : ℕ → List ℕ
-    after k = passed S order top u mem k
+    after k = worked_first S order top u mem k
 
     abbrev index : ℕ → ℕ
     index s = u + S.lead s - top
@@ -103,7 +104,7 @@ module _ (S : System) (order : List ℕ) (rank : ℕ → ℕ) (top : ℕ) (fitti
       one t h (name.Channel c) f =
           ap (λ (w : ℕ). wrap (channel_type S.records c) (pos w))
           (sym (stays k streams (slot S (channel c) p) (omega (arith, lk)) (omega arith)
-          (λ q lq _ _. channel_apart S order rank top fitting c q (p % S.size (channel c)) (index q) f.0.known lq (mod-lt p (fitting.some (channel c) f.0.known)))))
+          (λ q lq _ _. channel_apart S order rank top fitting c q (p % S.size (channel c)) (index q) f.0.known lq (mod-lt p (fitting.some (channel c) (channel_ring S.records c f.0.known))))))
       one t h (name.Stream q d) f =
           ap (λ (w : ℕ). wrap (equation_of S.records q).ty (pos w))
           (sym (stays k streams (slot S (stream q) (p + d)) (omega (arith, lk)) (omega arith)
@@ -113,28 +114,28 @@ module _ (S : System) (order : List ℕ) (rank : ℕ → ℕ) (top : ℕ) (fitti
                 let tq : top ≤ u + S.lead q = omega (arith, tb, ap (S.lead) is) in
                 let i : p + d ≡ index q = slots_apart (S.size (stream q)) (p + d) (index q) (omega (arith, h, t, f.0.ahead)) (omega (arith, h, t, f.1)) (omega (arith, here)) in
                 omega (arith, f.0.before (omega (arith, i, h, t, tq)), is_rank, rb, ap rank is)
-            | inr other ↦ stream_apart S order rank top fitting q b ((p + d) % S.size (stream q)) (index b) f.0.known lb (mod-lt (p + d) (fitting.some (stream q) f.0.known)) other e
+            | inr other ↦ stream_apart S order rank top fitting q b ((p + d) % S.size (stream q)) (index b) f.0.known lb (mod-lt (p + d) (fitting.some (stream q) (stream_ring S.records q f.0.known))) other e
           ])))
 
       stored_at : top ≤ u + S.lead s → get_or final (place s) 0 ≡ given final s
       stored_at t =
           stays (suc k) streams (place s) lk (omega arith)
-          (λ b lb rb tb. stream_apart S order rank top fitting s b (index s % S.size (stream s)) (index b) l lb (mod-lt (index s) (fitting.some (stream s) l)) (λ e. omega (arith, ap rank e, is_rank, rb))) ∙
+          (λ b lb rb tb. stream_apart S order rank top fitting s b (index s % S.size (stream s)) (index b) l lb (mod-lt (index s) (fitting.some (stream s) (stream_ring S.records s l))) (λ e. omega (arith, ap rank e, is_rank, rb))) ∙
           ap (λ (m : List ℕ). get_or m (place s) 0) (stores k t) ∙
           get_or-set_same (after k) (place s) (given (after k) s) 0
-          (in_room (stream s) (index s) (after k) (fitting.some (stream s) l) (fitting.within (stream s) l) (omega (arith, room, long k))) ∙
+          (in_room (stream s) (index s) (after k) (fitting.some (stream s) (stream_ring S.records s l)) (fitting.within (stream s) (stream_ring S.records s l)) (omega (arith, room, long k))) ∙
           ap word (same_equation S.records (samples_in S (after k)) (values_in S (after k)) (samples_in S final) (values_in S final) s (index s)
           (λ h. All-weaker _ _ (λ n. one t h n.name) (uses (equation_of S.records s).body) (fitting.reads s l)))
 
-    pub passed_passes : Passes S top u mem (passed S order top u mem streams)
-    passed_passes = record {
+    pub worked_ticks : Ticks S top u mem (worked_first S order top u mem streams)
+    worked_ticks = record {
       stored = λ s l. subst (λ (y : ℕ). top ≤ u + S.lead y → get_or final (place y) 0 ≡ given final y) (fitting.order_of s l) (stored_at (rank s) (fitting.ranked s l));
       others = λ i ne. stays 0 streams i (omega arith) (omega arith) (λ s l _. ne s l);
       long = long streams;
     }
 
-  pub passed_judges : (n : ℕ) (mem : List ℕ) → S.slots ≤ length mem → Judges S n mem (passed S order top (n + top) mem streams)
-  passed_judges n mem room = from_passes S top n mem (passed S order top (n + top) mem streams) (passed_passes (n + top) mem room)
+  pub worked_judges : (n : ℕ) (mem : List ℕ) → S.slots ≤ length mem → Judges S n mem (worked_first S order top (n + top) mem streams)
+  worked_judges n mem room = from_ticks S top n mem (worked_first S order top (n + top) mem streams) (worked_ticks (n + top) mem room)
 
   -- ---- storing samples
   module _ (n : ℕ) (row : ℕ → Value) (mem : List ℕ) (room : S.slots ≤ length mem) where
@@ -142,7 +143,7 @@ module _ (S : System) (order : List ℕ) (rank : ℕ → ℕ) (top : ℕ) (fitti
     channels = count Channel S.records
 
     abbrev rows : ℕ → List ℕ
-    rows c = sampled S n row mem c
+    rows c = stored_samples S n row mem c
 
     rows_long : (c : ℕ) → length (rows c) ≡ length mem
     rows_long zero = refl
@@ -150,8 +151,8 @@ module _ (S : System) (order : List ℕ) (rank : ℕ → ℕ) (top : ℕ) (fitti
 
     two_channels : (b c : ℕ) → b < channels → c < channels → ¬ (b ≡ c) → ¬ (slot S (channel b) n ≡ slot S (channel c) n)
     two_channels b c lb lc ne =
-        fitting.apart (channel b) (channel c) lb lc (λ e. ne (ap (λ (id : Id). id.number) e)) (n % S.size (channel b)) (n % S.size (channel c))
-        (mod-lt n (fitting.some (channel b) lb)) (mod-lt n (fitting.some (channel c) lc))
+        fitting.apart (channel b) (channel c) (channel_ring S.records b lb) (channel_ring S.records c lc) (λ e. ne (ap (λ (id : Id). id.number) e)) (n % S.size (channel b)) (n % S.size (channel c))
+        (mod-lt n (fitting.some (channel b) (channel_ring S.records b lb))) (mod-lt n (fitting.some (channel c) (channel_ring S.records c lc)))
 
     row_stored : (c b : ℕ) → c ≤ channels → b < c → get_or (rows c) (slot S (channel b) n) 0 ≡ word (row b)
     row_stored zero b l h = absurd (omega (arith, h))
@@ -159,7 +160,7 @@ module _ (S : System) (order : List ℕ) (rank : ℕ → ℕ) (top : ℕ) (fitti
       | inl e ↦
           ap (λ (y : ℕ). get_or (rows (suc c)) (slot S (channel y) n) 0) e ∙
           get_or-set_same (rows c) (slot S (channel c) n) (word (row c)) 0
-          (in_room (channel c) n (rows c) (fitting.some (channel c) (omega (arith, l))) (fitting.within (channel c) (omega (arith, l))) (omega (arith, room, rows_long c))) ∙
+          (in_room (channel c) n (rows c) (fitting.some (channel c) (channel_ring S.records c (omega (arith, l)))) (fitting.within (channel c) (channel_ring S.records c (omega (arith, l)))) (omega (arith, room, rows_long c))) ∙
           ap (λ (y : ℕ). word (row y)) (sym e)
       | inr ne ↦
           get_or-set_other (rows c) (slot S (channel c) n) (slot S (channel b) n) (word (row c)) 0 (two_channels b c (omega (arith, l, h)) (omega (arith, l)) ne) ∙
@@ -171,8 +172,8 @@ module _ (S : System) (order : List ℕ) (rank : ℕ → ℕ) (top : ℕ) (fitti
     row_elsewhere (suc c) k l ne =
         get_or-set_other (rows c) (slot S (channel c) n) k (word (row c)) 0 (ne c (omega (arith, l))) ∙ row_elsewhere c k (omega (arith, l)) ne
 
-    pub sampled_stores : StoresSamples S n row mem (sampled S n row mem channels)
-    sampled_stores = record {
+    pub samples_stored : StoresSamples S n row mem (stored_samples S n row mem channels)
+    samples_stored = record {
       stored = λ c l. row_stored channels c (omega arith) l;
       others = λ k ne. row_elsewhere channels k (omega arith) ne;
       long = rows_long channels;

@@ -2,13 +2,15 @@
 use Rattle.std.specs.Prelude.{◌≡◌, ℕ, ◌+◌, ◌<◌, List, length, map}
 use Rattle.values.specs.declared.value.Value.{Value}
 use Rattle.syntax.specs.declared.record.Kind.TheVariants.{Channel, Stream}
-use Rattle.syntax.specs.Entries.{count}
+use Rattle.syntax.specs.Entries.{Entry, count}
+use Rattle.schedule.specs.declared.plan.Plan.{Plan}
 use Rattle.evaluation.specs.Meaning.{Samples, Values, meaning}
 use Rattle.equations.specs.Equations.{TypedSamples, Meets}
 use Rattle.equations.specs.Alarms.{Rule, rules, rule_of, called_at}
-use Rattle.rings.specs.Systems.{System}
+use Rattle.equations.specs.Laws.{WellPlanned}
+use Rattle.rings.specs.Systems.{System, system_of}
 use Rattle.rings.specs.Memory.{samples_in, values_in, HoldsValues}
-use Rattle.rings.specs.Calls.{OpensRings, StoresSamples, Judges}
+use Rattle.rings.specs.Calls.{StoresSamples, Judges}
 
 -- a rule's guard and arguments have one value over two sources at p
 pub record SameRule (x : Samples) (v : Values) (y : Samples) (w : Values) (p : ℕ) (r : Rule) : Type 0 where
@@ -16,8 +18,6 @@ pub record SameRule (x : Samples) (v : Values) (y : Samples) (w : Values) (p : �
   pub arguments : map (meaning x v p) r.arguments ≡ map (meaning y w p) r.arguments
 
 pub record Lawful (S : System) : Type 0 where
-  -- opened rings hold the values of no tick
-  pub opens : (x : Samples) (old new : List ℕ) → OpensRings S old new → HoldsValues S x 0 0 new
   -- the samples of the tick n join those of the ticks before it
   pub samples : (x : Samples) (n : ℕ) (row : ℕ → Value) (old new : List ℕ) → StoresSamples S n row old new →
       ((c : ℕ) → c < count Channel S.records → row c ≡ x n c) → HoldsValues S x n n old → HoldsValues S x (n + 1) n new
@@ -33,3 +33,7 @@ pub record Lawful (S : System) : Type 0 where
       (k : ℕ) → k < length (rules S.records) → SameRule (samples_in S mem) (values_in S mem) x v n (rule_of S.records k)
   pub calls : (x : Samples) (n : ℕ) (mem : List ℕ) → HoldsValues S x (n + 1) (n + 1) mem → TypedSamples S.records x (n + 1) → (v : Values) → Meets S.records S.lead x (n + 1) v →
       called_at S.records (samples_in S mem) (values_in S mem) n ≡ called_at S.records x v n
+
+-- all this is so of a table that the check accepts, by its plan
+abbrev pub Laws : Type 0
+Laws = (rs : List Entry) (p : Plan) → WellPlanned rs p → Lawful (system_of rs p)

@@ -1,11 +1,10 @@
-// The equations of a table, and the one set of values that meets them.
+// The theory of rings: what memory holds of a table's values, and what each call makes of it.
 #![tactic(auto)]
 
-ghost use Rattle.std.specs.Prelude.{◌≡◌};
+ghost use Rattle.rings.specs.Laws.{Laws};
 
-/// Nothing.
-pub fn nothing(n: u8) -> u8
-    ensures { result ≡ n }
-{
-    n
-}
+/// Does nothing: its contract says what the rings of a table that the check accepts hold after each
+/// call, for every history of samples, and what is read off them then.
+pub fn laws()
+    ensures { Laws }
+{}

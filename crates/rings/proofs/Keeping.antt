@@ -14,6 +14,7 @@ use Rattle.names.specs.declared.uses.Name.TheVariants as name
 use Rattle.names.specs.Uses.{uses}
 use Rattle.references.specs.declared.reference.Id.{Id}
 use Rattle.schedule.specs.Graphs.{channel, stream}
+use Rattle.schedule.proofs.Taking.{channel_ring, stream_ring}
 use Rattle.evaluation.specs.Meaning.{Samples, Values, meaning, Same}
 use Rattle.evaluation.proofs.Agreeing.{depends_on_names}
 use Rattle.equations.specs.Equations.{channel_type, equation_of, by_equation, TypedSamples, Meets}
@@ -21,11 +22,11 @@ use Rattle.equations.specs.Alarms.{Rule, Call, rules, no_rule, rule_of, called_f
 use Rattle.equations.proofs.Sound.{Reads}
 use Rattle.rings.specs.Systems.{System, slot}
 use Rattle.rings.specs.Memory.{samples_in, values_in, RingHolds, RingsHold, HoldsValues}
-use Rattle.rings.specs.Calls.{OpensRings, StoresSamples, Judges}
+use Rattle.rings.specs.Calls.{StoresSamples, Judges}
 use Rattle.rings.specs.Laws.{SameRule, Lawful}
 use Rattle.rings.proofs.Fitting.{Keeps, AllFit, RuleFits, Fitting}
 use Rattle.rings.proofs.Ring.{recounted, unchanged, grown, read_back}
-use Rattle.rings.proofs.Passing.{Passes, samples_stay, values_grow, channel_apart}
+use Rattle.rings.proofs.Ticking.{Ticks, samples_stay, values_grow, channel_apart}
 use Rattle.rings.proofs.Only.{one_memory}
 
 -- the tick n, counted from the first opening tick, is n + top
@@ -36,15 +37,15 @@ module _ (S : System) (top n : ℕ) where
   index : (s : ℕ) → n + top + S.lead s - top ≡ n + S.lead s
   index s = omega arith
 
-  pub to_passes : (old new : List ℕ) → Judges S n old new → Passes S top (n + top) old new
-  to_passes old new j = record {
+  pub to_ticks : (old new : List ℕ) → Judges S n old new → Ticks S top (n + top) old new
+  to_ticks old new j = record {
     stored = λ s l _. subst (λ (i : ℕ). get_or new (slot S (stream s) i) 0 ≡ given new s i) (sym (index s)) (j.stored s l);
     others = λ k h. j.others k (λ s l e. h s l (omega arith) (e ∙ ap (λ (i : ℕ). slot S (stream s) i) (sym (index s))));
     long = j.long;
   }
 
-  pub from_passes : (old new : List ℕ) → Passes S top (n + top) old new → Judges S n old new
-  from_passes old new p = record {
+  pub from_ticks : (old new : List ℕ) → Ticks S top (n + top) old new → Judges S n old new
+  from_ticks old new p = record {
     stored = λ s l. subst (λ (i : ℕ). get_or new (slot S (stream s) i) 0 ≡ given new s i) (index s) (p.stored s l (omega arith));
     others = λ k h. p.others k (λ s l _ e. h s l (e ∙ ap (λ (i : ℕ). slot S (stream s) i) (index s)));
     long = p.long;
@@ -70,16 +71,16 @@ module _ (S : System) (order : List ℕ) (rank : ℕ → ℕ) (top : ℕ) (fitti
   samples_kept x n row old new stores same holds v meets = record {
     samples = λ c l.
         recounted S (channel c) (λ t. word (x t c)) (suc n) (n + 1) new (omega arith)
-        (grown S (channel c) (λ t. word (x t c)) n old new (fitting.some (channel c) l) ((holds v meets).samples c l) (stores.stored c l ∙ ap word (same c l))
+        (grown S (channel c) (λ t. word (x t c)) n old new (fitting.some (channel c) (channel_ring S.records c l)) ((holds v meets).samples c l) (stores.stored c l ∙ ap word (same c l))
         (λ j h ne. stores.others (S.base (channel c) + j) (λ b lb e. elim (cases_eq c b) [
           | inl is ↦ ne (omega (arith, e ∙ ap (λ (y : ℕ). slot S (channel y) n) (sym is)))
           | inr other ↦
-              fitting.apart (channel c) (channel b) l lb (λ q. other (ap (λ (id : Id). id.number) q)) j (n % S.size (channel b)) h (mod-lt n (fitting.some (channel b) lb)) e
+              fitting.apart (channel c) (channel b) (channel_ring S.records c l) (channel_ring S.records b lb) (λ q. other (ap (λ (id : Id). id.number) q)) j (n % S.size (channel b)) h (mod-lt n (fitting.some (channel b) (channel_ring S.records b lb))) e
         ])));
     values = λ s l.
-        unchanged S (stream s) (λ i. word (v s i)) (n + S.lead s) old new (fitting.some (stream s) l) ((holds v meets).values s l)
+        unchanged S (stream s) (λ i. word (v s i)) (n + S.lead s) old new (fitting.some (stream s) (stream_ring S.records s l)) ((holds v meets).values s l)
         (λ j h. stores.others (S.base (stream s) + j) (λ c lc e.
-        channel_apart S order rank top fitting c s (n % S.size (channel c)) j lc l (mod-lt n (fitting.some (channel c) lc)) (sym e ∙ in_place s j h)));
+        channel_apart S order rank top fitting c s (n % S.size (channel c)) j lc l (mod-lt n (fitting.some (channel c) (channel_ring S.records c lc))) (sym e ∙ in_place s j h)));
   }
     where
       in_place : (s j : ℕ) → j < S.size (stream s) → S.base (stream s) + j ≡ slot S (stream s) j
@@ -89,7 +90,7 @@ module _ (S : System) (order : List ℕ) (rank : ℕ → ℕ) (top : ℕ) (fitti
   judged : (x : Samples) (n : ℕ) (old new : List ℕ) → Judges S n old new → TypedSamples S.records x (n + 1) → HoldsValues S x (n + 1) n old → HoldsValues S x (n + 1) (n + 1) new
   judged x n old new j typed holds v meets =
       let held = holds v (λ s i l k. meets s i l (omega (arith, k))) in
-      let p = to_passes S top n old new j in
+      let p = to_ticks S top n old new j in
       let m : n + 1 ≡ suc (n + top) - top = omega arith in
       record {
         samples = λ c l. samples_stay S order rank top fitting (n + top) old new p x v (n + 1) m typed (met x n v meets) held.samples (counted held) c l;
@@ -110,7 +111,7 @@ module _ (S : System) (order : List ℕ) (rank : ℕ → ℕ) (top : ℕ) (fitti
       (s i : ℕ) → s < count Stream S.records → i + 1 ≡ n + S.lead s → values_in S mem s i ≡ v s i
   shown x m n mem holds v meets s i l e =
       read_back S (stream s) (λ i. word (v s i)) (n + S.lead s) mem (equation_of S.records s).ty (v s i) i ((holds v meets).values s l) refl
-      (meets s i l (omega (arith, e))).0 (omega (arith, e)) (omega (arith, e, fitting.some (stream s) l))
+      (meets s i l (omega (arith, e))).0 (omega (arith, e)) (omega (arith, e, fitting.some (stream s) (stream_ring S.records s l)))
 
   module _ (x : Samples) (n : ℕ) (mem : List ℕ) (holds : HoldsValues S x (n + 1) (n + 1) mem) (typed : TypedSamples S.records x (n + 1)) (v : Values)
       (meets : Meets S.records S.lead x (n + 1) v)
@@ -143,7 +144,6 @@ module _ (S : System) (order : List ℕ) (rank : ℕ → ℕ) (top : ℕ) (fitti
 
   pub lawful : Lawful S
   lawful = record {
-    opens = λ x old new o. o.held x;
     samples = samples_kept;
     judges = judged;
     one = λ n old a b ja jb. one_memory S order rank top fitting n old a b ja jb;
