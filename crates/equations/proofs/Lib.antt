@@ -5,3 +5,4 @@ pub mod Reading
 pub mod Sound
 pub mod One
 pub mod Sounding
+pub mod Examples

@@ -1,3 +1,4 @@
 pub mod Equations
 pub mod Alarms
 pub mod Laws
+pub mod Examples
