@@ -14,7 +14,7 @@ use Rattle.syntax.specs.Parsing.{parse}
 use Rattle.syntax.specs.Entries.{Entry, kind_of, kind_code, kind_coded, limit, count}
 use Rattle.syntax.specs.Reading.{many, at_most, body, filled, frame, entry_from}
 use Rattle.syntax.specs.Written.{written, Bounded, joined, payload, inner, write_entry, Small}
-use Rattle.syntax.proofs.Stand.{Stands, nothing, byte, join, as_byte, front_long, widened, Good, good_then, good_if, good_weaker, good_to, good_named, coded, good_after}
+use Rattle.syntax.proofs.Stand.{Stands, nothing, byte, join, as_byte, front_long, widened, Good, good_then, good_if, good_weaker, ends_to, good_named, coded, good_after}
 use Rattle.syntax.proofs.Sound.{EAt, sound}
 use Rattle.syntax.proofs.Parts.{TAt, SAt, sound_type, sound_value, sound_span, sized_stands}
 
@@ -103,7 +103,7 @@ module _ (bs : List ℕ) (small : AllByRecursion (λ b. b < 256) bs) where
       let part = take end bs in
       let byte_part = All-take (λ b. b < 256) end bs small in
       good_if (RAt before at) (ltb (count k before) (limit k)) _ _ (λ room.
-      good_to (RAt before at) bs end (filled k part (at + 3)) (good_weaker (WAt part byte_part k (at + 3)) (RAt before at) (filled k part (at + 3)) (sound_filled part byte_part k (at + 3)) (λ r n p.
+      ends_to (λ p. RAt before at p.0 p.1) bs end (filled k part (at + 3)) (good_weaker (WAt part byte_part k (at + 3)) (RAt before at) (filled k part (at + 3)) (sound_filled part byte_part k (at + 3)) (λ r n p.
       let z : n ≡ end = p.1 ∙ front_long bs end f.0.1 in
       let inside = widened bs end f.0.1 (omega (arith, z)) p.0 in
       let h0 = f.1 in (

@@ -87,15 +87,19 @@ module _ (bs : List ℕ) (end : ℕ) (long : end ≤ length bs) where
       let long_y : length y ≡ end - at = omega (arith, length-append ws (drop n (take end bs)), length-drop n (take end bs), l, e) in
       record { here = sym (take_at x tail (end - at) long_x) ∙ ap (take (end - at)) same ∙ take_at y tail (end - at) long_y; next = e }
 
--- P of what was found
-abbrev pub Good : {X : Type 0} → (X → ℕ → Type 0) → Found X → Type 0
-Good P (Ok p) = P p.0 p.1
-Good P (Err x) = Unit {0}
-
 -- Q of what reading ends with
 abbrev pub Ends : {Y : Type 0} → (Y → Type 0) → Result Y Refusal → Type 0
 Ends Q (Ok y) = Q y
 Ends Q (Err x) = Unit {0}
+
+-- P of what was found
+abbrev pub Good : {X : Type 0} → (X → ℕ → Type 0) → Found X → Type 0
+Good P r = Ends (λ p. P p.0 p.1) r
+
+-- also where the lower refusal comes first
+pub ends_to : {Y : Type 0} (Q : Y → Type 0) (bs : List ℕ) (end : ℕ) (r : Result Y Refusal) → Ends Q r → Ends Q (result_to bs end r)
+ends_to Q bs end (Ok y) h = h
+ends_to Q bs end (Err x) h = tt
 
 pub good_then : {X Y : Type 0} (P : X → ℕ → Type 0) (Q : Y → ℕ → Type 0) (f : Found X) (g : X → ℕ → Found Y) → Good P f → ((x : X) (n : ℕ) → P x n → Good Q (g x n)) → Good Q (then f g)
 good_then P Q (Ok p) g h k = k p.0 p.1 h
@@ -111,11 +115,6 @@ good_unless P b f x h = cond_both b (Err x) f (Good P) (λ _. tt) h
 pub good_weaker : {X : Type 0} (P Q : X → ℕ → Type 0) (f : Found X) → Good P f → ((x : X) (n : ℕ) → P x n → Q x n) → Good Q f
 good_weaker P Q (Ok p) h k = k p.0 p.1 h
 good_weaker P Q (Err x) h k = tt
-
--- what was found up to the end of a record or row
-pub good_to : {X : Type 0} (P : X → ℕ → Type 0) (bs : List ℕ) (end : ℕ) (f : Found X) → Good P f → Good P (result_to bs end f)
-good_to P bs end (Ok p) h = h
-good_to P bs end (Err x) h = tt
 
 pub good_named : {X : Type 0} (P : X → ℕ → Type 0) (o : Option X) (at next : ℕ) → ((x : X) → o ≡ Some x → P x next) → Good P (named o at next)
 good_named P None at next k = tt

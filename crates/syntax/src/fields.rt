@@ -11,8 +11,8 @@ use values::types::Type;
 use values::value::Value;
 
 impl<'a> Reader<'a> {
-    // A reader of its own at the same place, with which to read ahead.
-    pub(crate) fn fork(&self) -> Reader<'a>
+    /// A reader of its own at the same place, with which to read ahead.
+    pub fn fork(&self) -> Reader<'a>
         ensures { (result.bytes.now ≡ self.now.bytes.now) × (result.at ≡ self.now.at) }
     {
         Reader {

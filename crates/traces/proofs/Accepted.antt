@@ -10,7 +10,7 @@ use Rattle.values.specs.Types.{code}
 use Rattle.values.specs.Values.{type_of}
 use Rattle.values.specs.Bytes.{encoded}
 use Rattle.syntax.specs.Answers.{then}
-use Rattle.syntax.specs.Parts.{value_from}
+use Rattle.syntax.specs.Parts.{value_from, result_to}
 use Rattle.syntax.specs.Passing as passing
 use Rattle.syntax.specs.Written.{joined}
 use Rattle.syntax.proofs.Stand.{Stands, split, first, front_long, narrowed}
@@ -66,7 +66,7 @@ module _ (bs : List ℕ) (small : AllByRecursion (λ b. b < 256) bs) where
       let sp = span_is bs small at n (joined write_cell cs) s h in
       let long = front_long bs n h in
       let inside = subst (λ m. Stands part (at + 2) (joined write_cell cs) m) (sym long) (narrowed bs n h (omega arith) sp.1) in
-      row_is bs at (Ok n) (sym sp.0) ∙ ap (λ r. passing.then r (λ cs. Ok (cs, n))) (cells_are part (All-take (λ b. b < 256) n bs small) 16 cs (at + 2) inside l.0 l.1)
+      row_is bs at (Ok n) (sym sp.0) ∙ ap (λ r. passing.then (result_to bs n r) (λ cs. Ok (cs, n))) (cells_are part (All-take (λ b. b < 256) n bs small) 16 cs (at + 2) inside l.0 l.1)
 
   rows_are : (f : ℕ) (rs : List (List Cell)) (at : ℕ) → Stands bs at (write rs) (length bs) → length bs ≤ at + f → AllByRecursion Small rs → rows f bs at ≡ Ok rs
   unfolding rows

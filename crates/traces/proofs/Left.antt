@@ -1,9 +1,9 @@
 -- The rows that are left of a trace. Assumes nothing.
 use Rattle.std.proofs.Common.{◌≡◌, ℕ, zero, suc, ◌+◌, ◌-◌, ◌<◌, ◌≤◌, true, cond, ltb, is_ok, List, [], ◌∷◌, length, get_or, take, Ok, Err, Result, sym, refl, ap, ◌∙◌, arith, ⊎_elim}
 use Rattle.std.proofs.lemmas.Bool.{cases_lt}
-use Rattle.faults.specs.declared.cause.Cause.{Cause}
+use Rattle.faults.specs.Causes.{Refusal}
 use Rattle.syntax.specs.Answers.{Found, then}
-use Rattle.syntax.specs.Parts.{span}
+use Rattle.syntax.specs.Parts.{span, result_to}
 use Rattle.syntax.proofs.Stand.{Good, Ends, good_after}
 use Rattle.syntax.proofs.Parts.{SAt, sound_span}
 use Rattle.traces.specs.Reading.{Cell, cells, row_from, rows, read_trace}
@@ -12,16 +12,16 @@ use Rattle.traces.specs.Written.{Written}
 use Rattle.traces.proofs.Turns.{onto, turn_is, rows_turn, rows_end, row_to, trace_is}
 
 -- what comes of a part is the same, where it is the same of every part that P holds of
-then_same : {X Y : Type 0} (P : X → ℕ → Type 0) (r : Found X) (f g : X → ℕ → Result Y Cause) → Good P r → ((x : X) (n : ℕ) → P x n → f x n ≡ g x n) → then r f ≡ then r g
+then_same : {X Y : Type 0} (P : X → ℕ → Type 0) (r : Found X) (f g : X → ℕ → Result Y Refusal) → Good P r → ((x : X) (n : ℕ) → P x n → f x n ≡ g x n) → then r f ≡ then r g
 then_same P (Ok p) f g h k = k p.0 p.1 h
 then_same P (Err x) f g h k = refl
 
 -- a row before the others, where none of them is refused
-found_one : (r : List Cell) (rest : Result (List (List Cell)) Cause) → is_ok (onto (r ∷ []) rest) ≡ true → (found (onto (r ∷ []) rest) ≡ r ∷ found rest) × (is_ok rest ≡ true)
+found_one : (r : List Cell) (rest : Result (List (List Cell)) Refusal) → is_ok (onto (r ∷ []) rest) ≡ true → (found (onto (r ∷ []) rest) ≡ r ∷ found rest) × (is_ok rest ≡ true)
 found_one r (Ok rs) h = (refl, refl)
 found_one r (Err x) h = absurd (cc)
 
-any : {X : Type 0} (r : Result X Cause) → Ends (λ _. Unit {0}) r
+any : {X : Type 0} (r : Result X Refusal) → Ends (λ _. Unit {0}) r
 any (Ok x) = tt
 any (Err c) = tt
 
@@ -32,7 +32,7 @@ module _ (bs : List ℕ) where
   row_on at =
       good_after (SAt bs at) (λ _ n. at < n) (span bs at) (row_to bs at) (sound_span bs at) (λ end s.
       let long = s.2 in
-      good_after (λ _. Unit {0}) (λ _ n. at < n) (cells 16 (take end bs) (at + 2)) (λ cs. Ok (cs, end)) (any (cells 16 (take end bs) (at + 2))) (λ cs _. omega (arith, long)))
+      good_after (λ _. Unit {0}) (λ _ n. at < n) (result_to bs end (cells 16 (take end bs) (at + 2))) (λ cs. Ok (cs, end)) (any (result_to bs end (cells 16 (take end bs) (at + 2)))) (λ cs _. omega (arith, long)))
 
   -- as many turns as bytes are left are enough, and more change nothing
   rows_same : (f g at : ℕ) → length bs ≤ at + f → length bs ≤ at + g → rows f bs at ≡ rows g bs at
@@ -53,7 +53,7 @@ module _ (bs : List ℕ) where
       (ap found all ∙ p.0, p.1)
 
   -- where all was looked at, a row is refused only at the end
-  pub none_left : (at : ℕ) (x : Cause) → row_from bs at ≡ Err x → is_ok (rows (length bs) bs at) ≡ true → left bs at ≡ []
+  pub none_left : (at : ℕ) (x : Refusal) → row_from bs at ≡ Err x → is_ok (rows (length bs) bs at) ≡ true → left bs at ≡ []
   none_left at x e whole =
       ⊎_elim
       (λ (h : at < length bs).

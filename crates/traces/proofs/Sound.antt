@@ -6,9 +6,9 @@ use Rattle.std.proofs.lemmas.Bool.{ltb-true, ltb-false, leb-true, eqb-true, cond
 use Rattle.std.proofs.lemmas.List.{append-nil, drop_all, drop_more, get_or_past}
 use Rattle.values.specs.Types.{code}
 use Rattle.values.specs.Bytes.{encoded}
-use Rattle.syntax.specs.Parts.{type_from, value_from, span}
+use Rattle.syntax.specs.Parts.{type_from, value_from, span, result_to}
 use Rattle.syntax.specs.Written.{joined}
-use Rattle.syntax.proofs.Stand.{Stands, nothing, byte, join, as_byte, front_long, widened, Good, Ends, good_then, good_if, good_after}
+use Rattle.syntax.proofs.Stand.{Stands, nothing, byte, join, as_byte, front_long, widened, Good, Ends, good_then, good_if, good_after, ends_to}
 use Rattle.syntax.proofs.Parts.{TAt, VAt, SAt, sound_type, sound_value, sound_span, sized_stands}
 use Rattle.traces.specs.Reading.{Cell, cell_from, cells, row_from, rows, read_trace}
 use Rattle.traces.specs.Written.{write_cell, write_row, write, ProperCell, Small, Written}
@@ -60,7 +60,7 @@ module _ (bs : List ℕ) (small : AllByRecursion (λ b. b < 256) bs) where
       let byte_part = All-take (λ b. b < 256) end bs small in
       let long = front_long bs end s.1 in
       let on = s.2 in
-      good_after (CellsAt part byte_part 16 (at + 2)) (RowAt at) (cells 16 part (at + 2)) (λ cs. Ok (cs, end)) (sound_cells part byte_part 16 (at + 2) (omega (arith, long, on))) (λ cs p.
+      good_after (CellsAt part byte_part 16 (at + 2)) (RowAt at) (result_to bs end (cells 16 part (at + 2))) (λ cs. Ok (cs, end)) (ends_to (CellsAt part byte_part 16 (at + 2)) bs end (cells 16 part (at + 2)) (sound_cells part byte_part 16 (at + 2) (omega (arith, long, on)))) (λ cs p.
       let inside = widened bs end s.1 (omega arith) (subst (λ n. Stands part (at + 2) (joined write_cell cs) n) long p.0) in
       (sized_stands bs small at end (joined write_cell cs) s inside, s.1, omega (arith, on), (p.1, p.2))))
 

@@ -3,10 +3,10 @@ use Rattle.std.proofs.Common.{◌≡◌, ℕ, zero, suc, ◌+◌, ◌-◌, ◌<�
 use Rattle.std.proofs.lemmas.Bool.{lt-ltb, le-ltb, le-leb, eq-eqb, cond-true, cond-false, cond_both, ltb-false}
 use Rattle.std.proofs.lemmas.Bool.Decides.{nat_tests}
 use Rattle.std.proofs.lemmas.List.{append_assoc, append-nil, length-append, get_or_append_left, get_or_push, get_or_past}
-use Rattle.faults.specs.declared.cause.Cause.{Cause}
+use Rattle.faults.specs.Causes.{Refusal, refusal}
 use Rattle.faults.specs.declared.cause.Cause.TheVariants.{Malformed}
 use Rattle.syntax.specs.Answers.{Found, then}
-use Rattle.syntax.specs.Parts.{span}
+use Rattle.syntax.specs.Parts.{span, result_to}
 use Rattle.syntax.specs.Passing as passing
 use Rattle.syntax.proofs.Stand.{Good, Ends}
 use Rattle.sampling.specs.Rows.{placed}
@@ -14,22 +14,22 @@ use Rattle.traces.specs.Reading.{Cell, cell_from, cells, row_from, rows, read_tr
 use Rattle.traces.specs.Rows.{row_of}
 
 -- what was read before goes in front
-abbrev pub onto : {X : Type 0} → List X → Result (List X) Cause → Result (List X) Cause
+abbrev pub onto : {X : Type 0} → List X → Result (List X) Refusal → Result (List X) Refusal
 onto xs r = passing.then r (λ ys. Ok (xs ++ ys))
 
 -- one part at a place and the rest from the place after it; nothing at the end
-abbrev pub turn : {X : Type 0} → List ℕ → ℕ → Found X → (ℕ → Result (List X) Cause) → Result (List X) Cause
+abbrev pub turn : {X : Type 0} → List ℕ → ℕ → Found X → (ℕ → Result (List X) Refusal) → Result (List X) Refusal
 turn bs at one rest = cond (ltb at (length bs)) (then one (λ x n. onto (x ∷ []) (rest n))) (Ok [])
 
-pub onto_none : {X : Type 0} (r : Result (List X) Cause) → r ≡ onto [] r
+pub onto_none : {X : Type 0} (r : Result (List X) Refusal) → r ≡ onto [] r
 onto_none (Ok xs) = refl
 onto_none (Err x) = refl
 
-onto_one : {X : Type 0} (xs : List X) (x : X) (r : Result (List X) Cause) → onto xs (onto (x ∷ []) r) ≡ onto (xs ++ (x ∷ [])) r
+onto_one : {X : Type 0} (xs : List X) (x : X) (r : Result (List X) Refusal) → onto xs (onto (x ∷ []) r) ≡ onto (xs ++ (x ∷ [])) r
 onto_one xs x (Ok ys) = ap Ok (sym (append_assoc xs (x ∷ []) ys))
 onto_one xs x (Err e) = refl
 
-module _ {X : Type 0} (bs : List ℕ) (at : ℕ) (one : Found X) (rest : ℕ → Result (List X) Cause) where
+module _ {X : Type 0} (bs : List ℕ) (at : ℕ) (one : Found X) (rest : ℕ → Result (List X) Refusal) where
   -- before the end a turn is what comes of its part
   pub turn_is : (part : Found X) → at < length bs → one ≡ part → turn bs at one rest ≡ then part (λ x n. onto (x ∷ []) (rest n))
   turn_is part h e = cond-true _ _ _ (lt-ltb at (length bs) h) ∙ ap (λ f. then f (λ x n. onto (x ∷ []) (rest n))) e
@@ -38,33 +38,33 @@ module _ {X : Type 0} (bs : List ℕ) (at : ℕ) (one : Found X) (rest : ℕ →
   turn_end h = cond-false _ _ _ (le-ltb at (length bs) h)
 
   -- a whole of which some parts were read, and one turn more
-  module _ (whole : Result (List X) Cause) (xs : List X) (left : Result (List X) Cause) (so_far : whole ≡ onto xs left) (is : left ≡ turn bs at one rest) where
+  module _ (whole : Result (List X) Refusal) (xs : List X) (left : Result (List X) Refusal) (so_far : whole ≡ onto xs left) (is : left ≡ turn bs at one rest) where
     pub whole_more : (x : X) (n : ℕ) → at < length bs → one ≡ Ok (x, n) → whole ≡ onto (xs ++ (x ∷ [])) (rest n)
     whole_more x n h e = so_far ∙ ap (onto xs) (is ∙ turn_is (Ok (x, n)) h e) ∙ onto_one xs x (rest n)
 
-    pub whole_err : (x : Cause) → at < length bs → one ≡ Err x → whole ≡ Err x
+    pub whole_err : (x : Refusal) → at < length bs → one ≡ Err x → whole ≡ Err x
     whole_err x h e = so_far ∙ ap (onto xs) (is ∙ turn_is (Err x) h e)
 
 -- a whole of which nothing is left
-pub whole_end : {X : Type 0} (whole : Result (List X) Cause) (xs : List X) (left : Result (List X) Cause) → whole ≡ onto xs left → left ≡ Ok [] → whole ≡ Ok xs
+pub whole_end : {X : Type 0} (whole : Result (List X) Refusal) (xs : List X) (left : Result (List X) Refusal) → whole ≡ onto xs left → left ≡ Ok [] → whole ≡ Ok xs
 whole_end whole xs left so_far e = so_far ∙ ap (onto xs) e ∙ ap Ok (append-nil xs)
 
 -- Q of what reading ends with, where P of it gives Q
-pub ends_weaker : {Y : Type 0} (P Q : Y → Type 0) (r : Result Y Cause) → Ends P r → ((y : Y) → P y → Q y) → Ends Q r
+pub ends_weaker : {Y : Type 0} (P Q : Y → Type 0) (r : Result Y Refusal) → Ends P r → ((y : Y) → P y → Q y) → Ends Q r
 ends_weaker P Q (Ok y) h k = k y h
 ends_weaker P Q (Err x) h k = tt
 
 module _ {X : Type 0} (P : X → ℕ → Type 0) (Q : List X → Type 0) where
-  ends_onto : (x : X) (r : Result (List X) Cause) → Ends (λ xs. Q (x ∷ xs)) r → Ends Q (onto (x ∷ []) r)
+  ends_onto : (x : X) (r : Result (List X) Refusal) → Ends (λ xs. Q (x ∷ xs)) r → Ends Q (onto (x ∷ []) r)
   ends_onto x (Ok xs) h = h
   ends_onto x (Err e) h = tt
 
-  ends_one : (one : Found X) (rest : ℕ → Result (List X) Cause) → Good P one → ((x : X) (n : ℕ) → P x n → Ends (λ xs. Q (x ∷ xs)) (rest n)) → Ends Q (then one (λ x n. onto (x ∷ []) (rest n)))
+  ends_one : (one : Found X) (rest : ℕ → Result (List X) Refusal) → Good P one → ((x : X) (n : ℕ) → P x n → Ends (λ xs. Q (x ∷ xs)) (rest n)) → Ends Q (then one (λ x n. onto (x ∷ []) (rest n)))
   ends_one (Ok p) rest g k = ends_onto p.0 (rest p.1) (k p.0 p.1 g)
   ends_one (Err e) rest g k = tt
 
   -- Q of what a turn ends with: P of its part, and Q of that part before the rest
-  pub ends_turn : (bs : List ℕ) (at : ℕ) (one : Found X) (rest : ℕ → Result (List X) Cause) → Good P one → ((x : X) (n : ℕ) → P x n → Ends (λ xs. Q (x ∷ xs)) (rest n)) → (length bs ≤ at → Q []) → Ends Q (turn bs at one rest)
+  pub ends_turn : (bs : List ℕ) (at : ℕ) (one : Found X) (rest : ℕ → Result (List X) Refusal) → Good P one → ((x : X) (n : ℕ) → P x n → Ends (λ xs. Q (x ∷ xs)) (rest n)) → (length bs ≤ at → Q []) → Ends Q (turn bs at one rest)
   ends_turn bs at one rest g k e =
       cond_both (ltb at (length bs)) _ (Ok []) (Ends Q) (λ _. ends_one one rest g k) (λ b. let h = ltb-false at (length bs) b in e (omega arith))
 
@@ -81,7 +81,7 @@ module _ (bs : List ℕ) (at : ℕ) where
   cells_end (suc k) h = turn_end bs at (cell_from bs at) (cells k bs) h
 
   -- with no cell allowed, a byte is refused
-  pub cells_over : at < length bs → cells 0 bs at ≡ Err (Malformed at)
+  pub cells_over : at < length bs → cells 0 bs at ≡ Err (refusal (Malformed at))
   unfolding cells
   cells_over h = cond-true _ _ _ (lt-ltb at (length bs) h)
 
@@ -103,10 +103,10 @@ row_push cs c n e h = λ i k. at_channel k i where
 
 -- the row that ends at a place
 abbrev pub row_to : List ℕ → ℕ → ℕ → Found (List Cell)
-row_to bs at end = passing.then (cells 16 (take end bs) (at + 2)) (λ cs. Ok (cs, end))
+row_to bs at end = passing.then (result_to bs end (cells 16 (take end bs) (at + 2))) (λ cs. Ok (cs, end))
 
 -- a row is read up to where its length ends it
-pub row_is : (bs : List ℕ) (at : ℕ) (end : Result ℕ Cause) → end ≡ span bs at → row_from bs at ≡ passing.then end (row_to bs at)
+pub row_is : (bs : List ℕ) (at : ℕ) (end : Result ℕ Refusal) → end ≡ span bs at → row_from bs at ≡ passing.then end (row_to bs at)
 unfolding row_from
 row_is bs at end e = ap (λ r. passing.then r (row_to bs at)) (sym e)
 

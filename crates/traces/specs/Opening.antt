@@ -1,6 +1,7 @@
 -- What opening a trace answers, and what a latch gives. Assumes nothing.
 use Rattle.std.specs.Prelude.{◌≡◌, ℕ, ◌+◌, ◌<◌, ◌≤◌, true, is_ok, List, [], ◌∷◌, length, Some, None, Ok, Err, Option, Result}
 use Rattle.faults.specs.declared.cause.Cause.TheVariants.{NoRow, Dark}
+use Rattle.faults.specs.Causes.{refusal}
 use Rattle.faults.specs.declared.fault.Fault.{Fault}
 use Rattle.faults.specs.declared.fault.Layer.TheVariants as layer
 use Rattle.faults.specs.declared.stop.Stop.{Stop}
@@ -25,7 +26,7 @@ pub record Fresh (t : Trace) (bytes : List ℕ) (rs : List (List Cell)) : Type 0
 -- memory may fail only once the bytes are in order
 abbrev pub Opens : Trace → Trace → List ℕ → Result ℕ (Stop Fault) → Type 0
 Opens old new bytes (Ok n) = (rs : List (List Cell)) × (read_trace bytes ≡ Ok rs) × (n ≡ length rs) × Fresh new bytes rs
-Opens old new bytes (Err (Refused f)) = (new ≡ old) × (f ≡ made_by layer.Trace f.cause) × (read_trace bytes ≡ Err f.cause)
+Opens old new bytes (Err (Refused f)) = (new ≡ old) × (f ≡ made_by layer.Trace f.cause) × (read_trace bytes ≡ Err (refusal f.cause))
 Opens old new bytes (Err Memory) = (new ≡ old) × (rs : List (List Cell)) × (read_trace bytes ≡ Ok rs)
 
 -- the row that comes next, before those that are left from the place after it

@@ -1,12 +1,12 @@
 -- The rows that are left of a trace. Assumes nothing.
 use Rattle.std.specs.Prelude.{ℕ, List, [], ◌∷◌, length, Some, None, Ok, Err, Option, Result}
-use Rattle.faults.specs.declared.cause.Cause.{Cause}
+use Rattle.faults.specs.Causes.{Refusal}
 use Rattle.sampling.specs.Rows.{Readings}
 use Rattle.traces.specs.Reading.{Cell, rows}
 use Rattle.traces.specs.Rows.{row_of}
 
 -- the rows that were found, none where they are refused
-abbrev pub found : Result (List (List Cell)) Cause → List (List Cell)
+abbrev pub found : Result (List (List Cell)) Refusal → List (List Cell)
 found (Ok rs) = rs
 found (Err c) = []
 

@@ -18,15 +18,19 @@ fn read_cell(reader: &mut Reader<'_>) -> Result<Option<Value>, Cause>
     ensures { Finds (λ o. o) reader.old reader.new result (cell_from reader.old.bytes.now reader.old.at) }
 {
     let at = reader.at;
-    let code = reader.byte()?;
+    let mut ahead = reader.fork();
+    let code = ahead.byte()?;
     if code == NOTHING {
+        reader.at = ahead.at;
         return Ok(None);
     }
     let ty = Type::try_from(code).map_err(|_| Cause::Malformed(at))?;
-    Ok(Some(reader.read_value(ty)?))
+    let value = ahead.read_value(ty)?;
+    reader.at = ahead.at;
+    Ok(Some(value))
 }
 
-// The channels from 0 upward, to the row's end; a byte after the sixteenth is refused.
+// The channels from 0 upward, to the row's end; a byte after the sixteenth is refused. The reader is the row's own, and stays where it stopped.
 fn read_cells(reader: &mut Reader<'_>) -> Result<Row, Cause>
     ensures { Reads result (cells 16 reader.old.bytes.now reader.old.at) }
 {
@@ -53,12 +57,15 @@ pub(crate) fn read_row(reader: &mut Reader<'_>) -> Result<Row, Cause>
         bytes: &reader.bytes[..end],
         at: reader.at + 2,
     };
-    let row = read_cells(&mut inner)?;
+    let row = match read_cells(&mut inner) {
+        Ok(row) => row,
+        Err(cause) => return Err(reader.lower_first(end, cause)),
+    };
     reader.at = end;
     Ok(row)
 }
 
-// How many rows come, to the end.
+// How many rows come, to the end. The reader stays where it stopped.
 pub(crate) fn count_rows(reader: &mut Reader<'_>) -> Result<usize, Cause>
     ensures { Counts result (rows (length reader.old.bytes.now) reader.old.bytes.now reader.old.at) }
 {

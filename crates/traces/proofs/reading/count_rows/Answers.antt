@@ -27,7 +27,7 @@ returns-in_err-read_row c =
     let more : at < length bs = subst (λ b. at < length b) inv.same c.loop-reader-test.true in
     let some : 0 < f = omega (arith, inv.enough, more) in
     let p = err_from_is_err_and c.from_residual.result c.from_residual.ensures.1 in
-    let e = ap (λ b. row_from b at) (sym inv.same) ∙ c.in_err-read_row.ensures.value in
+    let e = ap (λ b. row_from b at) (sym inv.same) ∙ c.in_err-read_row.ensures.value.1 in
     rw (p.1, p.2) (whole_err bs at (row_from bs at) (rows (f - 1) bs) _ inv.read _ inv.so_far (rows_turn bs at f some) _ more e)
 
 pub loop-reader-preserved : goal.loop-reader-preserved

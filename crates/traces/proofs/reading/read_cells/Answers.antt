@@ -1,7 +1,7 @@
 use Rattle.std.proofs.Common.{◌≡◌, ℕ, ◌+◌, ◌-◌, ◌<◌, ◌≤◌, List, [], ◌∷◌, ◌++◌, length, Ok, Result, sym, refl, ap, ◌∙◌, subst, arith}
 use Rattle.std.proofs.lemmas.List.{length-append}
 use Rattle.std.proofs.lemmas.Result.{err_from_is_err_and}
-use Rattle.faults.specs.declared.cause.Cause.{Cause}
+use Rattle.faults.specs.Causes.{Refusal}
 use Rattle.sampling.specs.Rows.{placed}
 use Rattle.traces.specs.Reading.{Cell, cell_from, cells}
 use Rattle.traces.proofs.Turns.{onto, onto_none, whole_more, whole_err, whole_end, cells_turn, cells_end, cells_over, row_push}
@@ -18,7 +18,7 @@ loop-channel-init c =
     }
 
 -- at the end the cells read are all
-ended : (bs now : List ℕ) (at k : ℕ) (whole : Result (List Cell) Cause) (read : List Cell) → now ≡ bs → length now ≤ at → whole ≡ onto read (cells k bs at) → whole ≡ Ok read
+ended : (bs now : List ℕ) (at k : ℕ) (whole : Result (List Cell) Refusal) (read : List Cell) → now ≡ bs → length now ≤ at → whole ≡ onto read (cells k bs at) → whole ≡ Ok read
 ended bs now at k whole read same past so_far = whole_end whole read (cells k bs at) so_far (cells_end bs at k (subst (λ b. length b ≤ at) same past))
 
 pub returns-then-reader : goal.returns-then-reader
@@ -34,7 +34,7 @@ returns-in_err-read_cell c =
     let k = 16 - c.loop-channel.channel in
     let more : at < length bs = subst (λ b. at < length b) inv.same c.if-reader.false in
     let p = err_from_is_err_and c.from_residual.result c.from_residual.ensures.1 in
-    let e = ap (λ b. cell_from b at) (sym inv.same) ∙ c.in_err-read_cell.ensures in
+    let e = ap (λ b. cell_from b at) (sym inv.same) ∙ c.in_err-read_cell.ensures.1 in
     let some : 0 < k = omega (arith, c.loop-channel-test.true) in
     rw (p.1, p.2) (whole_err bs at (cell_from bs at) (cells (k - 1) bs) _ inv.read _ inv.so_far (cells_turn bs at k some) _ more e)
 

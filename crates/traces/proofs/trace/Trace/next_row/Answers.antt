@@ -6,7 +6,7 @@ use Rattle.traces.proofs.trace.Trace.next_row.Goals as goal
 pub returns-in_default : goal.returns-in_default
 returns-in_default c =
     let t = c.args.self.now in
-    none_left t.bytes.items t.at _ (ap (λ bs. row_from bs t.at) (sym c.deref.ensures.value) ∙ c.in_default.ensures.value) t.whole
+    none_left t.bytes.items t.at _ (ap (λ bs. row_from bs t.at) (sym c.deref.ensures.value) ∙ c.in_default.ensures.value.1) t.whole
 
 pub returns : goal.returns
 returns c =
