@@ -90,7 +90,7 @@ counts before r rs at c k =
     omega (arith, e, h, z)
 
 module _ (bs : List ℕ) (small : AllByRecursion (λ b. b < 256) bs) where
-  entry_is : (before : List Entry) (r : Entry) (at n : ℕ) → Stands bs at (write_entry r) n → n ≤ length bs → count (kind_of r) before < limit (kind_of r) → Small r → entry_from before bs at ≡ Ok (placed_entry at r, n)
+  pub entry_is : (before : List Entry) (r : Entry) (at n : ℕ) → Stands bs at (write_entry r) n → n ≤ length bs → count (kind_of r) before < limit (kind_of r) → Small r → entry_from before bs at ≡ Ok (placed_entry at r, n)
   unfolding entry_from
   entry_is before r at n s h room l =
       let sp = span_is bs small at n (inner r) s h in

@@ -9,7 +9,7 @@ use Rattle.values.specs.Values.{HasType}
 use Rattle.syntax.specs.declared.record.Kind.{Kind}
 use Rattle.syntax.specs.declared.record.Kind.TheVariants.{Channel, Stream, Rule}
 use Rattle.syntax.specs.Answers.{Found}
-use Rattle.syntax.specs.Parts.{type_from, value_from, span}
+use Rattle.syntax.specs.Parts.{type_from, value_from, end_of, span}
 use Rattle.syntax.specs.Parsing.{parse}
 use Rattle.syntax.specs.Entries.{Entry, kind_of, kind_code, kind_coded, limit, count}
 use Rattle.syntax.specs.Reading.{many, at_most, body, filled, frame, entry_from}
@@ -94,7 +94,7 @@ module _ (bs : List ℕ) (small : AllByRecursion (λ b. b < 256) bs) where
       sized_stands bs small at end (inner r) f.0 (join kind p)
 
   abbrev pub RAt : List Entry → ℕ → Entry → ℕ → Type 0
-  RAt before at r n = Stands bs at (write_entry r) n × (n ≤ length bs) × (at < n) × Small r × (count (kind_of r) before < limit (kind_of r))
+  RAt before at r n = Stands bs at (write_entry r) n × (n ≤ length bs) × (n ≡ end_of bs at) × Small r × (count (kind_of r) before < limit (kind_of r))
 
   pub sound_entry : (before : List Entry) (at : ℕ) → Good (RAt before at) (entry_from before bs at)
   unfolding entry_from
@@ -109,7 +109,7 @@ module _ (bs : List ℕ) (small : AllByRecursion (λ b. b < 256) bs) where
       let h0 = f.1 in (
         subst (λ x. Stands bs at (write_entry r) x) (sym z) (entry_stands at end k r f (subst (λ x. Stands bs (at + 3) (payload r) x) z inside) p.3),
         omega (arith, f.0.1, z),
-        omega (arith, h0, z),
+        z ∙ f.0.2,
         p.2,
         subst (λ x. count x before < limit x) (sym p.3) (ltb-true (count k before) (limit k) room),
       )))))

@@ -52,7 +52,7 @@ module _ (before : List Entry) (bs : List ℕ) (at : ℕ) where
 
 -- a table whose version and size pass is its records
 module _ (bs : List ℕ) (version : get_or bs 0 0 ≡ 1) (size : length bs ≤ 8192) where
-  table_is : read_table bs ≡ entries (length bs) [] bs 1
+  pub table_is : read_table bs ≡ entries (length bs) [] bs 1
   unfolding read_table
   table_is = cond-true _ _ _ (eq-eqb (get_or bs 0 0) 1 version) ∙ cond-true _ _ _ (le-leb (length bs) 8192 size)
 

@@ -33,21 +33,29 @@ counted rs r all room k =
     (λ t. let h = all k in omega (arith, h)) in
     omega (arith, e, at_k)
 
-nonempty : (bs : List ℕ) → get_or bs 0 0 ≡ 1 → 0 < length bs
+pub nonempty : (bs : List ℕ) → get_or bs 0 0 ≡ 1 → 0 < length bs
 nonempty [] v = absurd (omega (arith, v))
 nonempty (x ∷ xs) v = omega arith
 
-none : (k : Kind) → count k [] ≤ limit k
+pub none : (k : Kind) → count k [] ≤ limit k
 none Channel = omega arith
 none Stream = omega arith
 none Rule = omega arith
 
 module _ (bs : List ℕ) (small : AllByRecursion (λ b. b < 256) bs) where
-  abbrev SoFar : List Entry → ℕ → Type 0
+  abbrev pub SoFar : List Entry → ℕ → Type 0
   SoFar rs at = Stands bs 1 (write rs) at × (at ≤ length bs) × AllByRecursion Small rs × ((k : Kind) → count k rs ≤ limit k)
 
   abbrev AllRead : List Entry → Type 0
   AllRead rs = SoFar rs (length bs)
+
+  pub so_far_more : (before : List Entry) (at : ℕ) (r : Entry) (n : ℕ) → SoFar before at → RAt bs small before at r n → SoFar (before ++ (r ∷ [])) n
+  so_far_more before at r n h p = (
+    subst (λ ws. Stands bs 1 ws n) (sym (joined_push write_entry before r)) (join h.0 p.0),
+    p.1,
+    All-append Small before (r ∷ []) h.2 (p.3, tt),
+    counted before r h.3 p.4,
+  )
 
   sound_entries : (f : ℕ) (before : List Entry) (at : ℕ) → SoFar before at → length bs ≤ at + f → Ends AllRead (entries f before bs at)
   unfolding entries
@@ -57,7 +65,7 @@ module _ (bs : List ℕ) (small : AllByRecursion (λ b. b < 256) bs) where
       (λ b. ends_then (RAt bs small before at) AllRead (entry_from before bs at) _ (sound_entry bs small before at) (λ r n p.
       let past = p.2 in
       sound_entries f (before ++ (r ∷ [])) n
-      (subst (λ ws. Stands bs 1 ws n) (sym (joined_push write_entry before r)) (join h.0 p.0), p.1, All-append Small before (r ∷ []) h.2 (p.3, tt), counted before r h.3 p.4)
+      (so_far_more before at r n h p)
       (omega (arith, past))))
       (λ b. let g = h.1 in let q = ltb-false at (length bs) b in let e : at ≡ length bs = omega (arith, g, q) in subst (SoFar before) e h)
 

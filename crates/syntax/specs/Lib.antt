@@ -10,3 +10,4 @@ pub mod Counting
 pub mod Reading
 pub mod Written
 pub mod Passing
+pub mod Refusing

@@ -4,6 +4,7 @@ ghost use Rattle.faults.specs.Causes.{by_number};
 ghost use Rattle.syntax.specs.Entries.{entry_of};
 ghost use Rattle.syntax.specs.Readers.{Reads};
 ghost use Rattle.syntax.specs.Reading.{frame, entry_from, entries, read_table, Yields, Begun};
+ghost use Rattle.syntax.specs.Refusing.{RefusesAlike};
 ghost use Rattle.syntax.specs.Written.{AcceptsWritten};
 
 use crate::reader::Reader;
@@ -71,10 +72,11 @@ impl<'a> Reader<'a> {
     }
 }
 
-// The records of a table, or why the bytes are none.
+/// The records of a table, or why the bytes are none.
 pub fn read_table(alloc: Global, bytes: &[u8]) -> Result<Vec<Record>, Stop>
     ensures answer { Yields (Begun bytes.now) result (read_table bytes.now) }
     ensures law { AcceptsWritten bytes.now }
+    ensures refusals { RefusesAlike bytes.now }
 {
     if bytes.is_empty() || bytes[0] != VERSION {
         return Err(Stop::Refused(Cause::Version));
