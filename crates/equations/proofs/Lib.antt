@@ -4,5 +4,7 @@ pub mod Greatest
 pub mod Reading
 pub mod Sound
 pub mod One
+pub mod Calling
+pub mod Past
 pub mod Sounding
 pub mod Examples

@@ -4,6 +4,7 @@ use Rattle.std.specs.List.{AllByRecursion, slice_get}
 use Rattle.std.specs.Option.{option_map}
 use Rattle.values.specs.declared.types.«Type».TheVariants.{Bool}
 use Rattle.syntax.specs.declared.record.Kind.TheVariants.{Channel, Stream, Rule}
+use Rattle.syntax.specs.Trees.{Exp}
 use Rattle.syntax.specs.Entries.{Entry, count}
 use Rattle.syntax.specs.Entries as entry
 use Rattle.names.specs.Uses.{Use, uses, gathered}
@@ -49,12 +50,19 @@ all_unmap : {X Y : Type 0} (P : Y → Type 0) (f : X → Y) (xs : List X) → Al
 all_unmap P f [] all = tt
 all_unmap P f (x ∷ xs) all = (all.0, all_unmap P f xs all.1)
 
+-- what holds of all that several expressions name holds of what each names
+pub of_gathered : (P : Use → Type 0) (es : List Exp) → AllByRecursion P (gathered uses es) → AllByRecursion (λ e. AllByRecursion P (uses e)) es
+of_gathered P [] all = tt
+of_gathered P (e ∷ es) all = (all_left P (uses e) (gathered uses es) all, of_gathered P es (all_right P (uses e) (gathered uses es) all))
+
 abbrev pub rule : ℕ → Id
 rule n = record { kind = Rule; number = n }
 
 -- a rule is the n-th, for some n, and P holds of each of its references
-abbrev pub ReadsAs : (Reference → Type 0) → RuleOf → Type 0
-ReadsAs P r = (n : ℕ) × AllByRecursion (λ u. P (refer (rule n) u)) (uses r.guard) × AllByRecursion (λ u. P (refer (rule n) u)) (gathered uses r.arguments)
+pub record ReadsAs (P : Reference → Type 0) (r : RuleOf) : Type 0 where
+  pub number : ℕ
+  pub guard : AllByRecursion (λ u. P (refer (rule number) u)) (uses r.guard)
+  pub arguments : AllByRecursion (λ e. AllByRecursion (λ u. P (refer (rule number) u)) (uses e)) r.arguments
 
 module _ (P : Reference → Type 0) where
   abbrev Of : ℕ → Equation → Type 0
@@ -87,7 +95,11 @@ module _ (P : Reference → Type 0) where
       let here = map (refer (rule n)) (uses g ++ gathered uses es) in
       let rest = references (before ++ (entry.rule g es ∷ [])) rs in
       let mine = all_unmap P (refer (rule n)) (uses g ++ gathered uses es) (all_left P here rest all) in (
-        (n, all_left (λ u. P (refer (rule n) u)) (uses g) (gathered uses es) mine, all_right (λ u. P (refer (rule n) u)) (uses g) (gathered uses es) mine),
+        record {
+          number = n;
+          guard = all_left (λ u. P (refer (rule n) u)) (uses g) (gathered uses es) mine;
+          arguments = of_gathered (λ u. P (refer (rule n) u)) es (all_right (λ u. P (refer (rule n) u)) (uses g) (gathered uses es) mine);
+        },
         from_rules (before ++ (entry.rule g es ∷ [])) rs (all_right P here rest all),
       )
 

@@ -12,6 +12,7 @@ use Rattle.typing.specs.Scopes.{channel_types, stream_types}
 use Rattle.evaluation.specs.Meaning.{Samples, Values, meaning}
 use Rattle.evaluation.specs.Kept.{OfTypes}
 use Rattle.equations.specs.Equations.{equation_of, opening_of}
+use Rattle.equations.specs.Alarms.{Rule, rules}
 
 -- what a reader with this lead and so many opening values may read, where streams have these leads and ranks: samples of ticks before it,
 module _ (rs : List Entry) (leads ranks : ℕ → ℕ) (lead opening rank : ℕ) where
@@ -32,11 +33,17 @@ module _ (rs : List Entry) (leads ranks : ℕ → ℕ) (lead opening rank : ℕ)
   abbrev pub AllRead : List Use → Type 0
   AllRead us = AllByRecursion (λ u. Reads u.name) us
 
+-- a rule has no lead and no opening values, and comes after every stream
+pub record RuleReads (rs : List Entry) (leads ranks : ℕ → ℕ) (r : Rule) : Type 0 where
+  pub guard : AllRead rs leads ranks 0 0 (count Stream rs) (uses r.guard)
+  pub arguments : AllByRecursion (λ e. AllRead rs leads ranks 0 0 (count Stream rs) (uses e)) r.arguments
+
 pub record Sound (rs : List Entry) (lead rank : ℕ → ℕ) : Type 0 where
   pub top : ℕ
   pub most : (s : ℕ) → s < count Stream rs → lead s ≤ top
   pub ranked : (s : ℕ) → s < count Stream rs → rank s < count Stream rs
   pub reads : (s : ℕ) → s < count Stream rs → AllRead rs lead rank (lead s) (opening_of rs s) (rank s) (uses (equation_of rs s).body)
+  pub rules_read : AllByRecursion (RuleReads rs lead rank) (rules rs)
   pub opens : (s : ℕ) → s < count Stream rs → AllByRecursion (HasType (equation_of rs s).ty) (equation_of rs s).opening
   pub typed : (s : ℕ) → s < count Stream rs → (x : Samples) (v : Values) (p : ℕ) →
       OfTypes (channel_types rs) (stream_types rs) x v p (uses (equation_of rs s).body) → HasType (equation_of rs s).ty (meaning x v p (equation_of rs s).body)

@@ -24,13 +24,16 @@ use Rattle.schedule.proofs.Carrying.{stands}
 use Rattle.schedule.proofs.Serving.{serves}
 use Rattle.schedule.proofs.Standing.{orderly}
 use Rattle.evaluation.proofs.Ranges.{meaning_typed}
+use Rattle.evaluation.specs.Meaning.{Samples, Values}
 use Rattle.equations.specs.Equations.{Leads, equation_of, opening_of, Meets, SameValues}
-use Rattle.equations.specs.Laws.{WellPlanned, ExactlyOne, AtMostOne}
-use Rattle.equations.proofs.Listing.{stream_record, of_stream, body_listed, openings_same}
+use Rattle.equations.specs.Alarms.{Rule, rules}
+use Rattle.equations.specs.Laws.{WellPlanned, ExactlyOne, AtMostOne, OnThePast}
+use Rattle.equations.proofs.Listing.{stream_record, of_stream, rule, ReadsAs, Listed, body_listed, rules_listed, openings_same, openings_none}
 use Rattle.equations.proofs.Ranking.{place, ranked, order_of}
 use Rattle.equations.proofs.Greatest.{greatest, most}
-use Rattle.equations.proofs.Sound.{Reads, Sound}
+use Rattle.equations.proofs.Sound.{Reads, RuleReads, Sound}
 use Rattle.equations.proofs.One.{unique, exists}
+use Rattle.equations.proofs.Past.{meets_later, same_called}
 
 module _ (rs : List Entry) (p : Plan) (w : WellPlanned rs p) where
   pub served : Serves rs p
@@ -67,6 +70,16 @@ module _ (rs : List Entry) (p : Plan) (w : WellPlanned rs p) where
       Reads rs (lead_in p) rank_in (lead_in p s) (opening_of rs s) (rank_in s) n
   stream_reads s l = name_reads (stream s) (lead_in p s) (opening_of rs s) (rank_in s) refl (openings_same rs s l) (earlier s l)
 
+  -- what a rule names may be read
+  pub rule_reads : (n : ℕ) (m : Name) → In (refer_name (rule n) m) (references [] rs) → Reads rs (lead_in p) rank_in 0 0 (count Stream rs) m
+  rule_reads n = name_reads (rule n) 0 0 (count Stream rs) refl (openings_none rs n) (λ q d _ lq _. ranks q lq)
+
+  rule_sound : (r : Rule) → ReadsAs (Listed rs) r → RuleReads rs (lead_in p) rank_in r
+  rule_sound r listed = record {
+    guard = All-weaker _ _ (λ u. rule_reads listed.number u.name) (uses r.guard) listed.guard;
+    arguments = All-weaker _ _ (λ e. All-weaker _ _ (λ u. rule_reads listed.number u.name) (uses e)) r.arguments listed.arguments;
+  }
+
   small : (s : ℕ) → s < count Stream rs → Small (stream_record (equation_of rs s))
   small s l = of_stream Small rs w.order.small s l
 
@@ -76,6 +89,7 @@ module _ (rs : List Entry) (p : Plan) (w : WellPlanned rs p) where
     most = most (lead_in p) (count Stream rs);
     ranked = ranks;
     reads = λ s l. All-weaker _ _ (λ u. stream_reads s l u.name) (uses (equation_of rs s).body) (body_listed rs s l);
+    rules_read = All-weaker _ _ rule_sound (rules rs) (rules_listed rs);
     opens = λ s l. (small s l).1;
     typed = λ s l x v i.
         meaning_typed (channel_types rs) (stream_types rs) x v i (equation_of rs s).body (equation_of rs s).ty
@@ -101,7 +115,22 @@ same_lead rs lead lead' f g s l =
     let (b, w, goes', weighs') = (g s l).reached in
     omega (arith, ints, (g s l).most a v goes, (f s l).most b w goes', weighs, weighs')
 
+meets_by : (rs : List Entry) (lead lead' : ℕ → ℕ) → Leads rs lead → Leads rs lead' → (x : Samples) (n : ℕ) (v : Values) → Meets rs lead x n v → Meets rs lead' x n v
+meets_by rs lead lead' f g x n v meets s i l h = meets s i l (omega (arith, h, same_lead rs lead lead' f g s l))
+
 pub at_most_one : AtMostOne
 at_most_one rs p w lead leads x n v u mv mu s i l h =
-    let same = same_lead rs lead (lead_in p) leads w.planned.measured.leads in
-    unique rs (lead_in p) (rank_in rs p w) (sound rs p w) x n v u (λ t k lt lk. mv t k lt (omega (arith, lk, same t lt))) (λ t k lt lk. mu t k lt (omega (arith, lk, same t lt))) s i l (omega (arith, h, same s l))
+    let by = meets_by rs lead (lead_in p) leads w.planned.measured.leads x n in
+    unique rs (lead_in p) (rank_in rs p w) (sound rs p w) x n v u (by v mv) (by u mu) s i l (omega (arith, h, same_lead rs lead (lead_in p) leads w.planned.measured.leads s l))
+
+pub on_the_past : OnThePast
+on_the_past rs p w =
+    let s = sound rs p w in
+    let to : (lead : ℕ → ℕ) → Leads rs lead → (x : Samples) (n : ℕ) (v : Values) → Meets rs lead x n v → Meets rs (lead_in p) x n v =
+    λ lead leads. meets_by rs lead (lead_in p) leads w.planned.measured.leads in
+    record {
+      values = λ lead leads x y n same v m.
+          meets_by rs (lead_in p) lead w.planned.measured.leads leads y n v (meets_later rs (lead_in p) (rank_in rs p w) s x y n same v (to lead leads x n v m));
+      alarms = λ lead leads x y n same v u mv mu.
+          same_called rs (lead_in p) (rank_in rs p w) s x y n same v u (to lead leads x n v mv) (to lead leads y n u mu) n (omega arith);
+    }

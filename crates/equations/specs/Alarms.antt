@@ -1,5 +1,5 @@
 -- The alarms that a set of values calls. Assumes nothing.
-use Rattle.std.specs.Prelude.{ℕ, zero, suc, ◌+◌, false, if◌then◌else◌, List, [], ◌∷◌, ◌++◌, map, slice_index_or}
+use Rattle.std.specs.Prelude.{◌≡◌, ℕ, zero, suc, ◌+◌, false, if◌then◌else◌, List, [], ◌∷◌, ◌++◌, map, slice_index_or}
 use Rattle.values.specs.declared.value.Value.{Value}
 use Rattle.values.specs.declared.value.Value.TheVariants.{Bool}
 use Rattle.operators.specs.Operators.{truth}
@@ -49,3 +49,8 @@ called_at rs x v t = called_from x v t 0 (rules rs)
 abbrev pub called : List Entry → Samples → Values → ℕ → List Call
 called rs x v zero = []
 called rs x v (suc n) = called rs x v n ++ called_at rs x v n
+
+-- a rule's guard and its arguments have the same values at p over two samples and sets of values
+pub record SameRule (x : Samples) (v : Values) (y : Samples) (w : Values) (p : ℕ) (r : Rule) : Type 0 where
+  pub guard : meaning x v p r.guard ≡ meaning y w p r.guard
+  pub arguments : map (meaning x v p) r.arguments ≡ map (meaning y w p) r.arguments

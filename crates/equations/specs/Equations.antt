@@ -56,6 +56,10 @@ Leads rs lead = (s : ℕ) → s < count Stream rs → Lead (graph rs) (stream s)
 abbrev pub TypedSamples : List Entry → Samples → ℕ → Type 0
 TypedSamples rs x n = (t c : ℕ) → t < n → c < count Channel rs → HasType (channel_type rs c) (x t c)
 
+-- the samples of the first n ticks are the same
+abbrev pub SameSamples : List Entry → ℕ → Samples → Samples → Type 0
+SameSamples rs n x y = (t c : ℕ) → t < n → c < count Channel rs → x t c ≡ y t c
+
 -- after n ticks: v has a value of each stream's type at every index from 0 to its newest, n + lead - 1, and meets its equation there
 abbrev pub Meets : List Entry → (ℕ → ℕ) → Samples → ℕ → Values → Type 0
 Meets rs lead x n v =

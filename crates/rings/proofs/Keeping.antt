@@ -17,13 +17,14 @@ use Rattle.schedule.specs.Graphs.{channel, stream}
 use Rattle.schedule.proofs.Taking.{channel_ring, stream_ring}
 use Rattle.evaluation.specs.Meaning.{Samples, Values, meaning, Same}
 use Rattle.evaluation.proofs.Agreeing.{depends_on_names}
-use Rattle.equations.specs.Equations.{channel_type, equation_of, by_equation, TypedSamples, Meets}
-use Rattle.equations.specs.Alarms.{Rule, Call, rules, no_rule, rule_of, called_from, called_at}
+use Rattle.equations.specs.Equations.{channel_type, equation_of, by_equation, TypedSamples, SameSamples, Meets}
+use Rattle.equations.specs.Alarms.{Rule, SameRule, rules, no_rule, rule_of, called_at}
+use Rattle.equations.proofs.Calling.{same_arguments, same_calls}
 use Rattle.equations.proofs.Sound.{Reads}
 use Rattle.rings.specs.Systems.{System, slot}
 use Rattle.rings.specs.Memory.{samples_in, values_in, RingHolds, RingsHold, HoldsValues}
 use Rattle.rings.specs.Calls.{StoresSamples, Judges}
-use Rattle.rings.specs.Laws.{SameRule, Lawful}
+use Rattle.rings.specs.Laws.{Lawful}
 use Rattle.rings.proofs.Fitting.{Keeps, AllFit, RuleFits, Fitting}
 use Rattle.rings.proofs.Ring.{recounted, unchanged, grown, read_back}
 use Rattle.rings.proofs.Ticking.{Ticks, samples_stay, values_grow, channel_apart}
@@ -50,19 +51,6 @@ module _ (S : System) (top n : ℕ) where
     others = λ k h. p.others k (λ s l _ e. h s l (e ∙ ap (λ (i : ℕ). slot S (stream s) i) (index s)));
     long = p.long;
   }
-
--- what holds of each rule makes the alarms called the same
-same_arguments : (x : Samples) (v : Values) (y : Samples) (w : Values) (p : ℕ) (es : List Exp) → AllByRecursion (λ e. meaning x v p e ≡ meaning y w p e) es →
-    map (meaning x v p) es ≡ map (meaning y w p) es
-same_arguments x v y w p [] all = refl
-same_arguments x v y w p (e ∷ es) all = ap₂ (λ (a : Value) (b : List Value). a ∷ b) all.0 (same_arguments x v y w p es all.1)
-
-same_calls : (x : Samples) (v : Values) (y : Samples) (w : Values) (p k : ℕ) (rs : List Rule) → AllByRecursion (SameRule x v y w p) rs →
-    called_from x v p k rs ≡ called_from y w p k rs
-same_calls x v y w p k [] all = refl
-same_calls x v y w p k (r ∷ rs) all =
-    let rest = same_calls x v y w p (k + 1) rs all.1 in
-    λ j. cond (truth (all.0.guard j)) (record { tick = p; rule = k; arguments = all.0.arguments j } ∷ rest j) (rest j)
 
 module _ (S : System) (order : List ℕ) (rank : ℕ → ℕ) (top : ℕ) (fitting : Fitting S order rank top) where
   -- ---- storing samples
@@ -142,12 +130,26 @@ module _ (S : System) (order : List ℕ) (rank : ℕ → ℕ) (top : ℕ) (fitti
       called : called_at S.records (samples_in S mem) (values_in S mem) n ≡ called_at S.records x v n
       called = same_calls (samples_in S mem) (values_in S mem) x v n 0 (rules S.records) same_rules
 
-  pub lawful : Lawful S
-  lawful = record {
-    samples = samples_kept;
-    judges = judged;
-    one = λ n old a b ja jb. one_memory S order rank top fitting n old a b ja jb;
-    shows = shown;
-    tells = told;
-    calls = called;
-  }
+  -- ---- what the samples to come are
+  module _ (later : (x y : Samples) (n : ℕ) → SameSamples S.records n x y → (v : Values) → Meets S.records S.lead x n v → Meets S.records S.lead y n v) where
+    held_later : (x y : Samples) (m n : ℕ) (mem : List ℕ) → n ≤ m → SameSamples S.records m x y → HoldsValues S x m n mem → HoldsValues S y m n mem
+    held_later x y m n mem few same holds v meets =
+        let held = holds v (later y x n (λ t c h l. sym (same t c (omega (arith, h, few)) l)) v meets) in
+        record {
+          samples = λ c l. record {
+            newest = λ i h k. (held.samples c l).newest i h k ∙ ap word (same i c h l);
+            blank = (held.samples c l).blank;
+          };
+          values = held.values;
+        }
+
+    pub lawful : Lawful S
+    lawful = record {
+      past = held_later;
+      samples = samples_kept;
+      judges = judged;
+      one = λ n old a b ja jb. one_memory S order rank top fitting n old a b ja jb;
+      shows = shown;
+      tells = told;
+      calls = called;
+    }

@@ -27,7 +27,7 @@ use Rattle.equations.proofs.Greatest.{greatest, most}
 use Rattle.equations.proofs.Listing.{rule, ReadsAs, Listed, body_listed, rules_listed, openings_same, openings_none}
 use Rattle.equations.proofs.Ranking.{place, rank_of, order_of}
 use Rattle.equations.proofs.Sound.{Reads}
-use Rattle.equations.proofs.Sounding.{served, rank_in, ranks, name_reads, stream_reads}
+use Rattle.equations.proofs.Sounding.{served, rank_in, ranks, rule_reads, stream_reads, on_the_past}
 use Rattle.rings.specs.Systems.{System, system_of}
 use Rattle.rings.specs.Laws.{Laws}
 use Rattle.rings.proofs.Keeping.{lawful}
@@ -52,25 +52,13 @@ module _ (rs : List Entry) (p : Plan) (w : WellPlanned rs p) where
       All-weaker _ _ (λ u m. (stream_reads rs p w s l u.name m, name_keeps (stream s) (lead_in p s) (opening_of rs s) refl (openings_same rs s l) u.name m))
       (uses (equation_of rs s).body) (body_listed rs s l)
 
-  abbrev rule_fits : Use → Type 0
-  rule_fits u = Reads rs (lead_in p) (rank_in rs p w) 0 0 (count Stream rs) u.name × Keeps S 0 0 u.name
-
-  uses_fit : (n : ℕ) (us : List Use) → AllByRecursion (λ u. Listed rs (refer (rule n) u)) us → AllByRecursion rule_fits us
-  uses_fit n us listed =
-      All-weaker _ _
-      (λ u m. (
-        name_reads rs p w (rule n) 0 0 (count Stream rs) refl (openings_none rs n) (λ q d _ lq _. ranks rs p w q lq) u.name m,
-        name_keeps (rule n) 0 0 refl (openings_none rs n) u.name m,
-      )) us listed
-
-  each_fits : (es : List Exp) → AllByRecursion rule_fits (gathered uses es) → AllByRecursion (AllFit S (rank_in rs p w) 0 0 (count Stream rs)) es
-  each_fits [] all = tt
-  each_fits (e ∷ es) all = (all_left rule_fits (uses e) (gathered uses es) all, each_fits es (all_right rule_fits (uses e) (gathered uses es) all))
+  rule_name_fits : (n : ℕ) (m : Name) → In (refer_name (rule n) m) (references [] rs) → Reads rs (lead_in p) (rank_in rs p w) 0 0 (count Stream rs) m × Keeps S 0 0 m
+  rule_name_fits n m listed = (rule_reads rs p w n m listed, name_keeps (rule n) 0 0 refl (openings_none rs n) m listed)
 
   one_rule : (r : RuleOf) → ReadsAs (Listed rs) r → RuleFits S (rank_in rs p w) r
-  one_rule r (n, guard, arguments) = record {
-    guard = uses_fit n (uses r.guard) guard;
-    arguments = each_fits r.arguments (uses_fit n (gathered uses r.arguments) arguments);
+  one_rule r listed = record {
+    guard = All-weaker _ _ (λ u. rule_name_fits listed.number u.name) (uses r.guard) listed.guard;
+    arguments = All-weaker _ _ (λ e. All-weaker _ _ (λ u. rule_name_fits listed.number u.name) (uses e)) r.arguments listed.arguments;
   }
 
   -- ---- rings by their number: the channels' first, and then the streams'
@@ -145,4 +133,7 @@ module _ (rs : List Entry) (p : Plan) (w : WellPlanned rs p) where
   }
 
 pub laws : Laws
-laws rs p w = lawful (system_of rs p) p.order.items (rank_in rs p w) (greatest (lead_in p) (count Stream rs)) (fitting rs p w (greatest (lead_in p) (count Stream rs)) (most (lead_in p) (count Stream rs)))
+laws rs p w =
+    let top = greatest (lead_in p) (count Stream rs) in
+    lawful (system_of rs p) p.order.items (rank_in rs p w) top (fitting rs p w top (most (lead_in p) (count Stream rs)))
+    ((on_the_past rs p w).values (lead_in p) w.planned.measured.leads)

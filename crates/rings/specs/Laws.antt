@@ -1,21 +1,16 @@
 -- What the rings hold after each call, and what is read off them then, by the one set of values; for every history of samples. Assumes nothing.
-use Rattle.std.specs.Prelude.{◌≡◌, ℕ, ◌+◌, ◌<◌, List, length, map}
+use Rattle.std.specs.Prelude.{◌≡◌, ℕ, ◌+◌, ◌<◌, ◌≤◌, List, length}
 use Rattle.values.specs.declared.value.Value.{Value}
 use Rattle.syntax.specs.declared.record.Kind.TheVariants.{Channel, Stream}
 use Rattle.syntax.specs.Entries.{Entry, count}
 use Rattle.schedule.specs.declared.plan.Plan.{Plan}
-use Rattle.evaluation.specs.Meaning.{Samples, Values, meaning}
-use Rattle.equations.specs.Equations.{TypedSamples, Meets}
-use Rattle.equations.specs.Alarms.{Rule, rules, rule_of, called_at}
+use Rattle.evaluation.specs.Meaning.{Samples, Values}
+use Rattle.equations.specs.Equations.{TypedSamples, SameSamples, Meets}
+use Rattle.equations.specs.Alarms.{SameRule, rules, rule_of, called_at}
 use Rattle.equations.specs.Laws.{WellPlanned}
 use Rattle.rings.specs.Systems.{System, system_of}
 use Rattle.rings.specs.Memory.{samples_in, values_in, HoldsValues}
 use Rattle.rings.specs.Calls.{StoresSamples, Judges}
-
--- a rule's guard and arguments have one value over two sources at p
-pub record SameRule (x : Samples) (v : Values) (y : Samples) (w : Values) (p : ℕ) (r : Rule) : Type 0 where
-  pub guard : meaning x v p r.guard ≡ meaning y w p r.guard
-  pub arguments : map (meaning x v p) r.arguments ≡ map (meaning y w p) r.arguments
 
 pub record Lawful (S : System) : Type 0 where
   -- the samples of the tick n join those of the ticks before it
@@ -25,6 +20,8 @@ pub record Lawful (S : System) : Type 0 where
   pub judges : (x : Samples) (n : ℕ) (old new : List ℕ) → Judges S n old new → TypedSamples S.records x (n + 1) → HoldsValues S x (n + 1) n old → HoldsValues S x (n + 1) (n + 1) new
   -- judging makes one memory of what was there, whatever that was
   pub one : (n : ℕ) (old a b : List ℕ) → Judges S n old a → Judges S n old b → a ≡ b
+  -- what is held rests on the samples that were stored alone
+  pub past : (x y : Samples) (m n : ℕ) (mem : List ℕ) → n ≤ m → SameSamples S.records m x y → HoldsValues S x m n mem → HoldsValues S y m n mem
   -- the newest value of a stream that is read is that of the set
   pub shows : (x : Samples) (m n : ℕ) (mem : List ℕ) → HoldsValues S x m n mem → (v : Values) → Meets S.records S.lead x n v →
       (s i : ℕ) → s < count Stream S.records → i + 1 ≡ n + S.lead s → values_in S mem s i ≡ v s i
