@@ -29,7 +29,15 @@ pub record RuleFits (S : System) (ranks : ℕ → ℕ) (r : Rule) : Type 0 where
   pub guard : AllFit S ranks 0 0 (count Stream S.records) r.guard
   pub arguments : AllByRecursion (AllFit S ranks 0 0 (count Stream S.records)) r.arguments
 
--- rings that hold what is read, lie apart, and within the slots; and an order that has the stream of each rank
+-- k is a slot of some ring
+pub record InSomeRing (S : System) (k : ℕ) : Type 0 where
+  pub id : Id
+  pub ring : HasRing S.records id
+  pub at : ℕ
+  pub small : at < S.size id
+  pub is : k ≡ S.base id + at
+
+-- rings that hold what is read, lie apart, and are the slots; and an order that has the stream of each rank
 pub record Fitting (S : System) (order : List ℕ) (rank : ℕ → ℕ) (top : ℕ) : Type 0 where
   pub reads : (s : ℕ) → s < count Stream S.records → AllFit S rank (S.lead s) (opening_of S.records s) (rank s) (equation_of S.records s).body
   pub rules : AllByRecursion (RuleFits S rank) (rules S.records)
@@ -37,6 +45,7 @@ pub record Fitting (S : System) (order : List ℕ) (rank : ℕ → ℕ) (top : �
   pub some : (id : Id) → HasRing S.records id → 0 < S.size id
   pub within : (id : Id) → HasRing S.records id → S.base id + S.size id ≤ S.slots
   pub apart : (a b : Id) → HasRing S.records a → HasRing S.records b → ¬ (a ≡ b) → (i j : ℕ) → i < S.size a → j < S.size b → ¬ (S.base a + i ≡ S.base b + j)
+  pub covered : (k : ℕ) → k < S.slots → InSomeRing S k
   pub ordered : (k : ℕ) → k < count Stream S.records → slice_index order k < count Stream S.records
   pub rank_of : (k : ℕ) → k < count Stream S.records → rank (slice_index order k) ≡ k
   pub ranked : (s : ℕ) → s < count Stream S.records → rank s < count Stream S.records

@@ -1,9 +1,10 @@
 -- The laws of opening, storing samples, judging and reading. Assumes nothing.
-use Rattle.std.proofs.Common.{◌≡◌, ℕ, zero, suc, ◌+◌, ◌-◌, ◌%◌, ◌<◌, ◌≤◌, cond, List, [], ◌∷◌, length, map, get_or, refl, sym, ap, ap₂, ◌∙◌, subst, inl, inr, arith, mod-lt, mod-eq_of_lt}
+use Rattle.std.proofs.Common.{false, ◌≡◌, ℕ, zero, suc, ◌+◌, ◌-◌, ◌%◌, ◌<◌, ◌≤◌, cond, List, [], ◌∷◌, length, map, get_or, refl, sym, ap, ap₂, ◌∙◌, subst, inl, inr, arith, mod-lt, mod-eq_of_lt}
 use Rattle.std.specs.List.{AllByRecursion}
 use Rattle.std.proofs.ByRecursion.{All-weaker, All-get_or}
 use Rattle.std.proofs.lemmas.Bool.{cases_eq}
 use Rattle.values.specs.declared.value.Value.{Value}
+use Rattle.values.specs.declared.value.Value.TheVariants.{Bool}
 use Rattle.values.specs.Values.{HasType, word}
 use Rattle.operators.specs.Operators.{truth}
 use Rattle.syntax.specs.declared.record.Kind.TheVariants.{Channel, Stream}
@@ -28,7 +29,7 @@ use Rattle.rings.specs.Laws.{Lawful}
 use Rattle.rings.proofs.Fitting.{Keeps, AllFit, RuleFits, Fitting}
 use Rattle.rings.proofs.Ring.{recounted, unchanged, grown, read_back}
 use Rattle.rings.proofs.Ticking.{Ticks, samples_stay, values_grow, channel_apart}
-use Rattle.rings.proofs.Only.{one_memory}
+use Rattle.rings.proofs.Only.{one_memory, one_opening}
 
 -- the tick n, counted from the first opening tick, is n + top
 module _ (S : System) (top n : ℕ) where
@@ -131,25 +132,28 @@ module _ (S : System) (order : List ℕ) (rank : ℕ → ℕ) (top : ℕ) (fitti
       called = same_calls (samples_in S mem) (values_in S mem) x v n 0 (rules S.records) same_rules
 
   -- ---- what the samples to come are
-  module _ (later : (x y : Samples) (n : ℕ) → SameSamples S.records n x y → (v : Values) → Meets S.records S.lead x n v → Meets S.records S.lead y n v) where
-    held_later : (x y : Samples) (m n : ℕ) (mem : List ℕ) → n ≤ m → SameSamples S.records m x y → HoldsValues S x m n mem → HoldsValues S y m n mem
-    held_later x y m n mem few same holds v meets =
-        let held = holds v (later y x n (λ t c h l. sym (same t c (omega (arith, h, few)) l)) v meets) in
-        record {
-          samples = λ c l. record {
-            newest = λ i h k. (held.samples c l).newest i h k ∙ ap word (same i c h l);
-            blank = (held.samples c l).blank;
-          };
-          values = held.values;
-        }
+  module _ (later : (x y : Samples) (n : ℕ) → SameSamples S.records n x y → (v : Values) → Meets S.records S.lead x n v → Meets S.records S.lead y n v)
+      (first : (x : Samples) → (v : Values) × Meets S.records S.lead x 0 v)
+    where
+      held_later : (x y : Samples) (m n : ℕ) (mem : List ℕ) → n ≤ m → SameSamples S.records m x y → HoldsValues S x m n mem → HoldsValues S y m n mem
+      held_later x y m n mem few same holds v meets =
+          let held = holds v (later y x n (λ t c h l. sym (same t c (omega (arith, h, few)) l)) v meets) in
+          record {
+            samples = λ c l. record {
+              newest = λ i h k. (held.samples c l).newest i h k ∙ ap word (same i c h l);
+              blank = (held.samples c l).blank;
+            };
+            values = held.values;
+          }
 
-    pub lawful : Lawful S
-    lawful = record {
-      past = held_later;
-      samples = samples_kept;
-      judges = judged;
-      one = λ n old a b ja jb. one_memory S order rank top fitting n old a b ja jb;
-      shows = shown;
-      tells = told;
-      calls = called;
-    }
+      pub lawful : Lawful S
+      lawful = record {
+        past = held_later;
+        samples = samples_kept;
+        judges = judged;
+        one_opened = λ old a b oa ob. let set = first (λ _ _. Bool false) in one_opening S order rank top fitting (λ _ _. Bool false) set.0 set.1 old a b oa ob;
+        one_judged = λ n old a b ja jb. one_memory S order rank top fitting n old a b ja jb;
+        shows = shown;
+        tells = told;
+        calls = called;
+      }

@@ -1,25 +1,27 @@
--- Judging makes one memory of what was there. Assumes nothing.
-use Rattle.std.proofs.Common.{◌≡◌, ℕ, zero, suc, ◌+◌, ◌-◌, ◌%◌, ◌<◌, ◌≤◌, List, length, get_or, pos, sym, ap, ◌∙◌, inl, inr, arith, mod-lt}
+-- Opening makes one memory of what was there, and so does judging. Assumes nothing.
+use Rattle.std.proofs.Common.{refl, ◌≡◌, ℕ, zero, suc, ◌+◌, ◌-◌, ◌%◌, ◌<◌, ◌≤◌, List, length, get_or, pos, sym, ap, ◌∙◌, inl, inr, arith, mod-lt}
 use Rattle.std.proofs.ByRecursion.{All-weaker}
-use Rattle.std.proofs.lemmas.Bool.{cases_eq}
+use Rattle.std.proofs.lemmas.Bool.{cases_lt, cases_eq}
 use Rattle.std.proofs.lemmas.List.{ext_get_or}
 use Rattle.values.specs.Values.{wrap, word}
-use Rattle.syntax.specs.declared.record.Kind.TheVariants.{Channel, Stream}
+use Rattle.syntax.specs.declared.record.Kind.{Kind}
+use Rattle.syntax.specs.declared.record.Kind.TheVariants.{Channel, Stream, Rule}
 use Rattle.syntax.specs.Entries.{count}
 use Rattle.names.specs.declared.uses.Name.{Name}
 use Rattle.names.specs.declared.uses.Name.TheVariants as name
 use Rattle.names.specs.Uses.{uses}
 use Rattle.schedule.specs.Graphs.{channel, stream}
+use Rattle.schedule.specs.Plans.{HasRing}
 use Rattle.schedule.proofs.Taking.{channel_ring, stream_ring}
-use Rattle.evaluation.specs.Meaning.{Same}
-use Rattle.equations.specs.Equations.{channel_type, equation_of, opening_of}
+use Rattle.evaluation.specs.Meaning.{Samples, Values, Same}
+use Rattle.equations.specs.Equations.{channel_type, equation_of, opening_of, Meets}
 use Rattle.equations.proofs.Reading.{same_equation}
 use Rattle.equations.proofs.Sound.{Reads}
 use Rattle.rings.specs.Systems.{System, slot}
 use Rattle.rings.specs.Memory.{samples_in, values_in}
-use Rattle.rings.specs.Calls.{Judges}
+use Rattle.rings.specs.Calls.{OpensRings, Judges}
 use Rattle.rings.proofs.Fitting.{Keeps, Fitting}
-use Rattle.rings.proofs.Ring.{slots_apart}
+use Rattle.rings.proofs.Ring.{slots_apart, one_ring}
 use Rattle.rings.proofs.Ticking.{channel_apart, stream_apart}
 
 -- k is one of f 0 to f (n - 1), or none of them
@@ -85,3 +87,21 @@ module _ (S : System) (order : List ℕ) (rank : ℕ → ℕ) (top : ℕ) (fitti
     | one s l e ↦ ap (λ (i : ℕ). get_or a i 0) e ∙ at_places (suc (rank s)) s l (omega arith) ∙ ap (λ (i : ℕ). get_or b i 0) (sym e)
     | none h ↦ elsewhere k h
   ])
+
+-- of rings that hold one set, opened rings are one memory
+module _ (S : System) (order : List ℕ) (rank : ℕ → ℕ) (top : ℕ) (fitting : Fitting S order rank top) (x : Samples) (v : Values) (meets : Meets S.records S.lead x 0 v)
+    (old a b : List ℕ) (oa : OpensRings S old a) (ob : OpensRings S old b)
+  where
+    same_ring : (k : Kind) (n : ℕ) → HasRing S.records (record { kind = k; number = n }) → (j : ℕ) → j < S.size (record { kind = k; number = n }) →
+        get_or a (S.base (record { kind = k; number = n }) + j) 0 ≡ get_or b (S.base (record { kind = k; number = n }) + j) 0
+    same_ring Channel n h = one_ring S (channel n) (λ t. word (x t n)) 0 a b ((oa.held x v meets).samples n h.valid) ((ob.held x v meets).samples n h.valid)
+    same_ring Stream n h = one_ring S (stream n) (λ i. word (v n i)) (0 + S.lead n) a b ((oa.held x v meets).values n h.valid) ((ob.held x v meets).values n h.valid)
+    same_ring Rule n h = absurd (h.no_rule refl)
+
+    pub one_opening : a ≡ b
+    one_opening = ext_get_or 0 a b (oa.long ∙ sym ob.long) (λ k _. elim (cases_lt k S.slots) [
+      | inl l ↦
+          let c = fitting.covered k l in
+          ap (λ (i : ℕ). get_or a i 0) c.is ∙ same_ring c.id.kind c.id.number c.ring c.at c.small ∙ ap (λ (i : ℕ). get_or b i 0) (sym c.is)
+      | inr l ↦ oa.past k l ∙ sym (ob.past k l)
+    ])

@@ -1,6 +1,7 @@
 -- One ring: what one more value makes of it, and what is read off it. Assumes nothing.
-use Rattle.std.proofs.Common.{◌≡◌, ℕ, zero, suc, ◌+◌, ◌-◌, ◌/◌, ◌%◌, ◌<◌, ◌≤◌, List, get_or, pos, sym, ap, ◌∙◌, subst, inl, inr, arith, mod-lt, mod-eq_of_lt, mul-le-mul_left}
+use Rattle.std.proofs.Common.{◌≡◌, ℕ, zero, suc, ◌+◌, ◌-◌, ◌*◌, ◌/◌, ◌%◌, ◌<◌, ◌≤◌, List, get_or, pos, sym, ap, ◌∙◌, subst, inl, inr, arith, mod-lt, mod-eq_of_lt, mul-le-mul_left, div-add-mod'}
 use Rattle.std.proofs.lemmas.Bool.{cases_lt, cases_eq}
+use Rattle.std.proofs.lemmas.Nat.{mod-mul-add}
 use Rattle.values.specs.declared.types.«Type».{«Type» as Ty}
 use Rattle.values.specs.declared.value.Value.{Value}
 use Rattle.values.specs.Values.{num, wrap, word, HasType}
@@ -15,6 +16,14 @@ slots_apart m i j l h e = elim (cases_lt (i / m) (j / m)) [
   | inl k ↦ absurd (omega (arith, mul-le-mul_left m k))
   | inr k ↦ omega (arith, mul-le-mul_left m k)
 ]
+
+-- of the indexes below n, at least one of the newest m lies in each slot below n
+slot_index : (n m j : ℕ) → j < m → j < n → (i : ℕ) × (i < n) × (n ≤ i + m) × (i % m ≡ j)
+slot_index n m j lm ln =
+    let d : ℕ = n - 1 - j in
+    let whole = div-add-mod' d m in
+    let rest : d % m < m = mod-lt d (let some : 0 < m = omega (arith, lm) in some) in
+    (d / m * m + j, omega (arith, whole, rest, ln), omega (arith, whole, rest, ln), mod-mul-add (d / m) m j lm)
 
 -- the low bits of a value's word are the value
 pub back : (t : Ty) (v : Value) → HasType t v → wrap t (pos (word v)) ≡ v
@@ -51,3 +60,13 @@ module _ (S : System) (id : Id) (words : ℕ → ℕ) where
   pub read_back : (n : ℕ) (mem : List ℕ) (t : Ty) (v : Value) (i : ℕ) → RingHolds S id words n mem → words i ≡ word v → HasType t v → i < n → n ≤ i + S.size id →
       wrap t (pos (get_or mem (slot S id i) 0)) ≡ v
   read_back n mem t v i h is typed l k = ap (λ (w : ℕ). wrap t (pos w)) (h.newest i l k ∙ is) ∙ back t v typed
+
+  -- what a ring holds is in each of its slots
+  pub one_ring : (n : ℕ) (a b : List ℕ) → RingHolds S id words n a → RingHolds S id words n b → (j : ℕ) → j < S.size id → get_or a (S.base id + j) 0 ≡ get_or b (S.base id + j) 0
+  one_ring n a b ha hb j l = elim (cases_lt j n) [
+    | inl there ↦
+        let (i, below, near, is) = slot_index n (S.size id) j l there in
+        let same : slot S id i ≡ S.base id + j = omega (arith, is) in
+        ap (λ (k : ℕ). get_or a k 0) (sym same) ∙ ha.newest i below near ∙ sym (hb.newest i below near) ∙ ap (λ (k : ℕ). get_or b k 0) same
+    | inr past ↦ ha.blank j l past ∙ sym (hb.blank j l past)
+  ]

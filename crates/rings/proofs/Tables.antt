@@ -17,8 +17,8 @@ use Rattle.walks.specs.Walks.{In}
 use Rattle.schedule.specs.declared.plan.Plan.{Plan}
 use Rattle.schedule.specs.Edges.{Valid}
 use Rattle.schedule.specs.Graphs.{channel, stream, openings}
-use Rattle.schedule.specs.Plans.{HasRing, ring_count, ring_in, length_in, lead_in, lead_of}
-use Rattle.schedule.proofs.Taking.{channel_ring, stream_ring}
+use Rattle.schedule.specs.Plans.{HasRing, ring_count, slots_before, ring_in, length_in, lead_in, lead_of}
+use Rattle.schedule.proofs.Taking.{slots_more, slots_listed, channel_ring, stream_ring}
 use Rattle.evaluation.proofs.Agreeing.{all_left, all_right}
 use Rattle.equations.specs.Equations.{equation_of, opening_of}
 use Rattle.equations.specs.Alarms.{Rule as RuleOf, rules}
@@ -26,12 +26,13 @@ use Rattle.equations.specs.Laws.{WellPlanned}
 use Rattle.equations.proofs.Greatest.{greatest, most}
 use Rattle.equations.proofs.Listing.{rule, ReadsAs, Listed, body_listed, rules_listed, openings_same, openings_none}
 use Rattle.equations.proofs.Ranking.{place, rank_of, order_of}
+use Rattle.equations.proofs.One.{exists}
 use Rattle.equations.proofs.Sound.{Reads}
-use Rattle.equations.proofs.Sounding.{served, rank_in, ranks, rule_reads, stream_reads, on_the_past}
+use Rattle.equations.proofs.Sounding.{served, rank_in, ranks, rule_reads, stream_reads, sound, on_the_past}
 use Rattle.rings.specs.Systems.{System, system_of}
 use Rattle.rings.specs.Laws.{Laws}
 use Rattle.rings.proofs.Keeping.{lawful}
-use Rattle.rings.proofs.Fitting.{Keeps, AllFit, RuleFits, Fitting}
+use Rattle.rings.proofs.Fitting.{Keeps, AllFit, RuleFits, InSomeRing, Fitting}
 
 module _ (rs : List Entry) (p : Plan) (w : WellPlanned rs p) where
   abbrev S : System
@@ -118,6 +119,33 @@ module _ (rs : List Entry) (p : Plan) (w : WellPlanned rs p) where
         ]
       ]
 
+  -- every slot is one of a ring's
+  ring_before : (m k : ℕ) → k < slots_before (length_in p) m → (q : ℕ) × (q < m) × (slots_before (length_in p) q ≤ k) × (k < slots_before (length_in p) q + length_in p q)
+  ring_before zero k h = absurd (omega (arith, h))
+  ring_before (suc m) k h = elim (cases_lt k (slots_before (length_in p) m)) [
+    | inl below ↦ let (q, l, low, high) = ring_before m k below in (q, omega (arith, l), low, high)
+    | inr past ↦
+        let e : m + 1 ≡ suc m = omega arith in
+        (m, omega arith, past, omega (arith, h, slots_more (length_in p) m, ap (slots_before (length_in p)) e))
+  ]
+
+  in_some_ring : (k : ℕ) → k < S.slots → InSomeRing S k
+  in_some_ring k h =
+      let (q, l, low, high) = ring_before (ring_count rs) k (omega (arith, h, slots_listed rs p channels_are, ap (λ c. c.slots) w.planned.counts)) in
+      let base = w.planned.bases q l in
+      elim (cases_lt q (count Channel rs)) [
+        | inl c ↦ record { id = channel q; ring = channel_ring rs q c; at = k - slots_before (length_in p) q; small = omega (arith, low, high); is = omega (arith, low, base) }
+        | inr s ↦
+            let e : p.counts.records.channels + (q - count Channel rs) ≡ q = omega (arith, s, channels_are) in
+            record {
+              id = stream (q - count Channel rs);
+              ring = stream_ring rs (q - count Channel rs) (omega (arith, l, s));
+              at = k - slots_before (length_in p) q;
+              small = omega (arith, low, high, ap (length_in p) e);
+              is = omega (arith, low, base, ap (λ (r : ℕ). (ring_in p r).base) e);
+            }
+      ]
+
   pub fitting : (top : ℕ) → ((s : ℕ) → s < count Stream rs → lead_in p s ≤ top) → Fitting S p.order.items (rank_in rs p w) top
   fitting top most = record {
     reads = body_fits;
@@ -126,6 +154,7 @@ module _ (rs : List Entry) (p : Plan) (w : WellPlanned rs p) where
     some = λ id h. let x = in_list id.kind id.number h in omega (arith, x.size, (served rs p w).some (number id.kind id.number) x.small);
     within = λ id h. let x = in_list id.kind id.number h in omega (arith, x.base, x.size, (served rs p w).within (number id.kind id.number) x.small);
     apart = apart;
+    covered = in_some_ring;
     ordered = (served rs p w).order.each.within;
     rank_of = rank_of (count Stream rs) p.order.items (served rs p w).order.each;
     ranked = ranks rs p w;
@@ -137,3 +166,4 @@ laws rs p w =
     let top = greatest (lead_in p) (count Stream rs) in
     lawful (system_of rs p) p.order.items (rank_in rs p w) top (fitting rs p w top (most (lead_in p) (count Stream rs)))
     ((on_the_past rs p w).values (lead_in p) w.planned.measured.leads)
+    (λ x. exists rs (lead_in p) (rank_in rs p w) (sound rs p w) x 0 (λ t c h. absurd (omega (arith, h))))

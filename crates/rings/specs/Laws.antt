@@ -10,7 +10,7 @@ use Rattle.equations.specs.Alarms.{SameRule, rules, rule_of, called_at}
 use Rattle.equations.specs.Laws.{WellPlanned}
 use Rattle.rings.specs.Systems.{System, system_of}
 use Rattle.rings.specs.Memory.{samples_in, values_in, HoldsValues}
-use Rattle.rings.specs.Calls.{StoresSamples, Judges}
+use Rattle.rings.specs.Calls.{OpensRings, StoresSamples, Judges}
 
 pub record Lawful (S : System) : Type 0 where
   -- the samples of the tick n join those of the ticks before it
@@ -18,8 +18,9 @@ pub record Lawful (S : System) : Type 0 where
       ((c : ℕ) → c < count Channel S.records → row c ≡ x n c) → HoldsValues S x n n old → HoldsValues S x (n + 1) n new
   -- and the values of the tick n those of the ticks before it
   pub judges : (x : Samples) (n : ℕ) (old new : List ℕ) → Judges S n old new → TypedSamples S.records x (n + 1) → HoldsValues S x (n + 1) n old → HoldsValues S x (n + 1) (n + 1) new
-  -- judging makes one memory of what was there, whatever that was
-  pub one : (n : ℕ) (old a b : List ℕ) → Judges S n old a → Judges S n old b → a ≡ b
+  -- opening, and judging, makes one memory of what was there, whatever that was
+  pub one_opened : (old a b : List ℕ) → OpensRings S old a → OpensRings S old b → a ≡ b
+  pub one_judged : (n : ℕ) (old a b : List ℕ) → Judges S n old a → Judges S n old b → a ≡ b
   -- what is held rests on the samples that were stored alone
   pub past : (x y : Samples) (m n : ℕ) (mem : List ℕ) → n ≤ m → SameSamples S.records m x y → HoldsValues S x m n mem → HoldsValues S y m n mem
   -- the newest value of a stream that is read is that of the set
