@@ -13,13 +13,16 @@ use Rattle.sampling.specs.Holds.{hold_row, hold_dark}
 use Rattle.sampling.specs.Meanings.{Meaning}
 use Rattle.sampling.specs.Rows.{readings}
 
+-- a row has nothing above channel 15
 pub past : (r : Row) (k : ℕ) → 15 < k → readings r k ≡ None
 past r k h = cond-false _ _ _ (le-ltb k 16 (omega arith))
 
+-- nor has a hold
 pub past_hold : (latched : Bool) (rs : List ChannelRecord) (k : ℕ) → 15 < k → hold_row latched rs k ≡ None
 past_hold true rs k h = cond-false _ _ _ (le-ltb k 16 (omega arith))
 past_hold false rs k h = refl
 
+-- a dark read of a hold is refused by 15 at its channel, as one below is
 pub dark_hold : (latched : Bool) (below : Meaning) → ((k : ℕ) → refusal (below.dark k).cause ≡ (15, k)) → (k : ℕ) → refusal (hold_dark latched below k).fault.cause ≡ (15, k)
 dark_hold false below darkens k = refl
 dark_hold true below darkens k = by_row (below.present k) where

@@ -1,5 +1,5 @@
 // The hold: stands over any sampler, and bridges the latches at which a channel below has nothing.
-ghost use Rattle.std.specs.Prelude.{◌≡◌, ◌<◌, ℕ, true, false, is_ok, unwrap_or, ok_or};
+ghost use Rattle.std.specs.Prelude.{◌≡◌, ◌<◌, ℕ, true, false, is_ok, ok_or};
 ghost use Rattle.sampling.specs.Holds.{after, record_at, hold_row, hold_dark};
 ghost use Rattle.faults.specs.Faults.{from_below};
 ghost use Rattle.std.specs.Borrow.{Lends, sem};
