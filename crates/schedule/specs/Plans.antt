@@ -45,7 +45,9 @@ slots_before length q = sum (map length (range_with_len 0 q))
 
 -- the sum of the lengths of all channels' rings and all streams' rings
 abbrev pub slots_of : List Entry → (Id → ℕ) → ℕ
-slots_of rs length = slots_before (λ c. length (channel c)) (count Channel rs) + slots_before (λ s. length (stream s)) (count Stream rs)
+slots_of rs length =
+    slots_before (λ c. length (channel c)) (count Channel rs)
+    + slots_before (λ s. length (stream s)) (count Stream rs)
 
 -- all rings together take z slots
 pub record Takes (rs : List Entry) (z : ℕ) : Type 0 where
@@ -86,7 +88,8 @@ lead_of p id = lead_by (lead_in p) id
 -- the order has each stream once, and a stream whose newest value is read comes before its reader
 pub record Ordered (rs : List Entry) (lead : ℕ → ℕ) (order : List ℕ) : Type 0 where
   pub each : EachOnce (count Stream rs) order
-  pub before : (r : Reference) → In r (references [] rs) → Newest (graph rs) (lead_by lead) r → (i j : ℕ) → i < count Stream rs → j < count Stream rs →
+  pub before : (r : Reference) → In r (references [] rs) → Newest (graph rs) (lead_by lead) r →
+      (i j : ℕ) → i < count Stream rs → j < count Stream rs →
       r.read ≡ stream (slice_index order i) → r.reader ≡ stream (slice_index order j) → i < j
 
 -- how many records of each kind there are, with so many slots
