@@ -55,8 +55,10 @@ impl<K: Sink> Quota<K> {
 
     // An alarm for the sink below, where one of the quota's own is left.
     fn pass(&mut self, alarm: Alarm) -> Result<(), QuotaFault>
-        ensures answer { result ≡ offered (quota_view K.Sink self.old) alarm (quota_full K.Sink self.old alarm) }
-        ensures view { Offered K.adds alarm (quota_view K.Sink self.old) (quota_view K.Sink self.new) result }
+        ensures answer { result ≡
+            offered (quota_view K.Sink self.old) alarm (quota_full K.Sink self.old alarm) }
+        ensures view { Offered K.adds alarm
+            (quota_view K.Sink self.old) (quota_view K.Sink self.new) result }
         ensures moved { is_ok result ≡ true → Passed K.Sink alarm self.old self.new }
         ensures rested { is_ok result ≡ false → Rested K.Sink alarm self.old self.new }
     {
