@@ -6,7 +6,7 @@ use Rattle.std.proofs.lemmas.Bool.{ltb-true, ltb-false, leb-true, eqb-true, cond
 use Rattle.std.proofs.lemmas.List.{append-nil, drop_all, drop_more, get_or_past}
 use Rattle.values.specs.Types.{code}
 use Rattle.values.specs.Bytes.{encoded}
-use Rattle.syntax.specs.Parts.{type_from, value_from, span, result_to}
+use Rattle.syntax.specs.Parts.{type_from, value_from, end_of, span, result_to}
 use Rattle.syntax.specs.Written.{joined}
 use Rattle.syntax.proofs.Stand.{Stands, nothing, byte, join, as_byte, front_long, widened, Good, Ends, good_then, good_if, good_after, ends_to}
 use Rattle.syntax.proofs.Parts.{TAt, VAt, SAt, sound_type, sound_value, sound_span, sized_stands}
@@ -49,10 +49,10 @@ module _ (bs : List ℕ) (small : AllByRecursion (λ b. b < 256) bs) where
 
 module _ (bs : List ℕ) (small : AllByRecursion (λ b. b < 256) bs) where
   -- a row stands where it was read, and the place after it is past its start
-  abbrev RowAt : ℕ → List Cell → ℕ → Type 0
-  RowAt at cs n = Stands bs at (write_row cs) n × (n ≤ length bs) × (at < n) × Small cs
+  abbrev pub RowAt : ℕ → List Cell → ℕ → Type 0
+  RowAt at cs n = Stands bs at (write_row cs) n × (n ≤ length bs) × (n ≡ end_of bs at) × Small cs
 
-  sound_row : (at : ℕ) → Good (RowAt at) (row_from bs at)
+  pub sound_row : (at : ℕ) → Good (RowAt at) (row_from bs at)
   unfolding row_from
   sound_row at =
       good_after (SAt bs at) (RowAt at) (span bs at) (row_to bs at) (sound_span bs at) (λ end s.
@@ -62,7 +62,7 @@ module _ (bs : List ℕ) (small : AllByRecursion (λ b. b < 256) bs) where
       let on = s.2 in
       good_after (CellsAt part byte_part 16 (at + 2)) (RowAt at) (result_to bs end (cells 16 part (at + 2))) (λ cs. Ok (cs, end)) (ends_to (CellsAt part byte_part 16 (at + 2)) bs end (cells 16 part (at + 2)) (sound_cells part byte_part 16 (at + 2) (omega (arith, long, on)))) (λ cs p.
       let inside = widened bs end s.1 (omega arith) (subst (λ n. Stands part (at + 2) (joined write_cell cs) n) long p.0) in
-      (sized_stands bs small at end (joined write_cell cs) s inside, s.1, omega (arith, on), (p.1, p.2))))
+      (sized_stands bs small at end (joined write_cell cs) s inside, s.1, s.2, (p.1, p.2))))
 
   -- rows stand to the end
   abbrev RowsAt : ℕ → List (List Cell) → Type 0

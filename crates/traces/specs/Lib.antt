@@ -3,3 +3,4 @@ pub mod Written
 pub mod Rows
 pub mod Traces
 pub mod Opening
+pub mod Refusing

@@ -3,6 +3,7 @@ ghost use Rattle.std.specs.Prelude.{◌≡◌, ℕ, [], ◌∷◌, IfOk, refl};
 ghost use Rattle.sampling.specs.Short.{past};
 ghost use Rattle.traces.specs.Reading.{read_trace};
 ghost use Rattle.traces.specs.Rows.{Counts};
+ghost use Rattle.traces.specs.Refusing.{RefusesAlike};
 ghost use Rattle.traces.specs.Written.{AcceptsWritten};
 ghost use Rattle.traces.specs.Opening.{Fresh, Opens, Comes, Gives, trace_meaning};
 
@@ -27,6 +28,7 @@ const MOST_BYTES: usize = 65536;
 fn check_rows(bytes: &[u8]) -> Result<usize, Cause>
     ensures rows { Counts result (read_trace bytes.now) }
     ensures law { AcceptsWritten bytes.now }
+        ensures refusals { RefusesAlike bytes.now }
 {
     if bytes.is_empty() || bytes[0] != VERSION {
         return Err(Cause::Version);
@@ -55,6 +57,7 @@ impl Trace {
     pub fn open(&mut self, alloc: Global, bytes: &[u8]) -> Result<usize, Stop<Fault>>
         ensures answer { Opens self.old self.new bytes.now result }
         ensures law { AcceptsWritten bytes.now }
+        ensures refusals { RefusesAlike bytes.now }
     {
         let rows = match check_rows(bytes) {
             Ok(rows) => rows,
