@@ -6,15 +6,11 @@ use Rattle.syntax.specs.Answers.{Found, then}
 use Rattle.syntax.specs.Parts.{span, result_to}
 use Rattle.syntax.proofs.Stand.{Good, Ends, good_after}
 use Rattle.syntax.proofs.Parts.{SAt, sound_span}
+use Rattle.syntax.proofs.Same.{then_same}
 use Rattle.traces.specs.Reading.{Cell, cells, row_from, rows, read_trace}
 use Rattle.traces.specs.Traces.{found, left}
 use Rattle.traces.specs.Written.{Written}
 use Rattle.traces.proofs.Turns.{onto, turn_is, rows_turn, rows_end, row_to, trace_is}
-
--- what comes of a part is the same, where it is the same of every part that P holds of
-then_same : {X Y : Type 0} (P : X → ℕ → Type 0) (r : Found X) (f g : X → ℕ → Result Y Refusal) → Good P r → ((x : X) (n : ℕ) → P x n → f x n ≡ g x n) → then r f ≡ then r g
-then_same P (Ok p) f g h k = k p.0 p.1 h
-then_same P (Err x) f g h k = refl
 
 -- a row before the others, where none of them is refused
 found_one : (r : List Cell) (rest : Result (List (List Cell)) Refusal) → is_ok (onto (r ∷ []) rest) ≡ true → (found (onto (r ∷ []) rest) ≡ r ∷ found rest) × (is_ok rest ≡ true)
@@ -41,7 +37,7 @@ module _ (bs : List ℕ) where
   rows_same (suc f) zero at h k = rows_end bs at (suc f) (omega arith)
   rows_same (suc f) (suc g) at h k =
       ap (λ t. cond (ltb at (length bs)) t (Ok []))
-      (then_same (λ _ n. at < n) (row_from bs at) (λ r n. onto (r ∷ []) (rows f bs n)) (λ r n. onto (r ∷ []) (rows g bs n)) (row_on at) (λ r n on. ap (onto (r ∷ [])) (rows_same f g n (omega arith) (omega arith))))
+      (then_same (λ p. at < p.1) (row_from bs at) (λ p. onto (p.0 ∷ []) (rows f bs p.1)) (λ p. onto (p.0 ∷ []) (rows g bs p.1)) (row_on at) (λ p on. ap (onto (p.0 ∷ [])) (rows_same f g p.1 (omega arith) (omega arith))))
 
   -- a row that was read is the first of those left, and the others are left from the place after it
   pub one_less : (at n : ℕ) (r : List Cell) → at < n → n ≤ length bs → row_from bs at ≡ Ok (r, n) → is_ok (rows (length bs) bs at) ≡ true → (left bs at ≡ r ∷ left bs n) × (is_ok (rows (length bs) bs n) ≡ true)

@@ -28,7 +28,7 @@ const MOST_BYTES: usize = 65536;
 fn check_rows(bytes: &[u8]) -> Result<usize, Cause>
     ensures rows { Counts result (read_trace bytes.now) }
     ensures law { AcceptsWritten bytes.now }
-        ensures refusals { RefusesAlike bytes.now }
+    ensures refusals { RefusesAlike bytes.now }
 {
     if bytes.is_empty() || bytes[0] != VERSION {
         return Err(Cause::Version);
