@@ -1,7 +1,6 @@
 -- Rules whose guards and arguments have the same values call the same alarms. Assumes nothing.
 use Rattle.std.proofs.Common.{◌≡◌, ℕ, ◌+◌, cond, List, [], ◌∷◌, map, refl, ap₂}
 use Rattle.std.specs.List.{AllByRecursion}
-use Rattle.std.proofs.ByRecursion.{All-weaker}
 use Rattle.values.specs.declared.value.Value.{Value}
 use Rattle.operators.specs.Operators.{truth}
 use Rattle.syntax.specs.Trees.{Exp}

@@ -8,8 +8,7 @@ use Rattle.operators.specs.Operators.{binary}
 use Rattle.syntax.specs.declared.record.Kind.TheVariants.{Stream}
 use Rattle.references.specs.References.{reads}
 use Rattle.schedule.specs.Graphs.{stream}
-use Rattle.evaluation.specs.Meaning.{Samples}
-use Rattle.equations.specs.Equations.{Leads, OneSet}
+use Rattle.equations.specs.Equations.{Leads}
 use Rattle.equations.specs.Examples.{m3_and_m2, M2Repeats, m0_to_m2, M2LooksAhead, CallsInTurn}
 use Rattle.equations.proofs.Listing.{openings_same}
 

@@ -1,9 +1,9 @@
 -- What holds of a table's records and references holds of its streams' equations and its rules. Assumes nothing.
-use Rattle.std.proofs.Common.{◌≡◌, ℕ, zero, suc, ◌+◌, ◌-◌, ◌<◌, Bool as Truth, cond, List, [], ◌∷◌, ◌++◌, map, length, get_or, Some, None, Option, refl, ap, ◌∙◌, subst, inl, inr, arith, ne_eqb}
+use Rattle.std.proofs.Common.{◌≡◌, ℕ, zero, suc, ◌+◌, ◌-◌, ◌<◌, Bool as Truth, cond, List, [], ◌∷◌, ◌++◌, map, get_or, Some, None, Option, refl, ap, ◌∙◌, subst, inl, inr, arith, ne_eqb}
 use Rattle.std.specs.List.{AllByRecursion, slice_get}
 use Rattle.std.specs.Option.{option_map}
 use Rattle.values.specs.declared.types.«Type».TheVariants.{Bool}
-use Rattle.syntax.specs.declared.record.Kind.TheVariants.{Channel, Stream, Rule}
+use Rattle.syntax.specs.declared.record.Kind.TheVariants.{Stream, Rule}
 use Rattle.syntax.specs.Trees.{Exp}
 use Rattle.syntax.specs.Entries.{Entry, count}
 use Rattle.syntax.specs.Entries as entry
@@ -16,7 +16,7 @@ use Rattle.walks.specs.Walks.{In}
 use Rattle.schedule.specs.Graphs.{stream, openings, opening_count, record_at}
 use Rattle.schedule.proofs.Standing.{count_append}
 use Rattle.evaluation.proofs.Agreeing.{all_left, all_right}
-use Rattle.equations.specs.Equations.{Equation, equations, equation_of, opening_of}
+use Rattle.equations.specs.Equations.{Equation, equation_of, opening_of}
 use Rattle.equations.specs.Alarms.{Rule as RuleOf, rules}
 
 -- a stream's type in scope is its equation's

@@ -1,5 +1,5 @@
 -- Exactly one set of values meets the equations: by induction on the tick at which a value is worked out, and then on its stream's rank. Assumes nothing.
-use Rattle.std.proofs.Common.{◌≡◌, ℕ, zero, suc, ◌+◌, ◌-◌, ◌*◌, ◌<◌, ◌≤◌, cond, false, ltb, List, get_or, refl, sym, ap, ◌∙◌, subst, inl, inr, arith, mul-le-mul_left, ltb-true, ltb-false}
+use Rattle.std.proofs.Common.{◌≡◌, ℕ, zero, suc, ◌+◌, ◌-◌, ◌*◌, ◌<◌, ◌≤◌, false, ltb, List, refl, sym, ap, ◌∙◌, subst, inl, inr, arith, mul-le-mul_left, ltb-true, ltb-false}
 use Rattle.std.proofs.ByRecursion.{All-weaker, All-get_or}
 use Rattle.std.proofs.lemmas.Bool.{cases_Bool, cases_eq, cond-true, cond-false}
 use Rattle.values.specs.declared.value.Value.TheVariants.{Bool}
@@ -15,7 +15,7 @@ use Rattle.evaluation.specs.Kept.{OfType}
 use Rattle.equations.specs.Equations.{equation_of, opening_of, by_equation, TypedSamples, Meets, SameValues}
 use Rattle.equations.proofs.Listing.{type_same}
 use Rattle.equations.proofs.Reading.{same_equation}
-use Rattle.equations.proofs.Sound.{Reads, ReadsChannel, ReadsStream, Sound}
+use Rattle.equations.proofs.Sound.{Reads, ReadsStream, Sound}
 
 module _ (rs : List Entry) (lead rank : ℕ → ℕ) (sound : Sound rs lead rank) where
   abbrev streams : ℕ

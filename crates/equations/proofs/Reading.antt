@@ -1,5 +1,5 @@
 -- An equation over two sources says the same where they agree on what it names. Assumes nothing.
-use Rattle.std.proofs.Common.{◌≡◌, ℕ, ◌-◌, ◌≤◌, cond, false, ltb, List, length, get_or, sym, ap, ◌∙◌, inl, inr, ltb-false}
+use Rattle.std.proofs.Common.{◌≡◌, ℕ, ◌-◌, ◌≤◌, cond, false, ltb, List, get_or, sym, ap, ◌∙◌, inl, inr, ltb-false}
 use Rattle.std.proofs.lemmas.Bool.{cases_Bool, cond-true}
 use Rattle.values.specs.declared.value.Value.TheVariants.{Bool}
 use Rattle.syntax.specs.Entries.{Entry}

@@ -1,9 +1,7 @@
 -- What the check of a table shows makes its equations sound. Assumes nothing.
 use Rattle.std.proofs.Common.{◌≡◌, ℕ, ◌+◌, ◌<◌, List, [], pos, refl, sym, ap, arith}
-use Rattle.std.specs.List.{AllByRecursion}
 use Rattle.std.proofs.ByRecursion.{All-weaker}
 use Rattle.std.proofs.lemmas.Int.{ints}
-use Rattle.values.specs.Values.{HasType}
 use Rattle.syntax.specs.declared.record.Kind.TheVariants.{Channel, Stream}
 use Rattle.syntax.specs.Entries.{Entry, count}
 use Rattle.syntax.specs.Written.{Small}
@@ -25,7 +23,7 @@ use Rattle.schedule.proofs.Serving.{serves}
 use Rattle.schedule.proofs.Standing.{orderly}
 use Rattle.evaluation.proofs.Ranges.{meaning_typed}
 use Rattle.evaluation.specs.Meaning.{Samples, Values}
-use Rattle.equations.specs.Equations.{Leads, equation_of, opening_of, Meets, SameValues}
+use Rattle.equations.specs.Equations.{Leads, equation_of, opening_of, Meets}
 use Rattle.equations.specs.Alarms.{Rule, rules}
 use Rattle.equations.specs.Laws.{WellPlanned, ExactlyOne, AtMostOne, OnThePast}
 use Rattle.equations.proofs.Listing.{stream_record, of_stream, rule, ReadsAs, Listed, body_listed, rules_listed, openings_same, openings_none}

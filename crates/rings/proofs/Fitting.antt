@@ -1,5 +1,5 @@
 -- What the check of a table shows of its rings. Assumes nothing.
-use Rattle.std.specs.Prelude.{◌≡◌, ℕ, ◌+◌, ◌<◌, ◌≤◌, ◌⊎◌, List, slice_index}
+use Rattle.std.specs.Prelude.{◌≡◌, ℕ, ◌+◌, ◌<◌, ◌≤◌, List, slice_index}
 use Rattle.std.specs.List.{AllByRecursion}
 use Rattle.syntax.specs.declared.record.Kind.TheVariants.{Stream}
 use Rattle.syntax.specs.Trees.{Exp}

@@ -1,5 +1,5 @@
 -- What the opening ticks make of the memory. Assumes nothing.
-use Rattle.std.proofs.Common.{◌≡◌, ℕ, zero, suc, ◌+◌, ◌-◌, ◌%◌, ◌<◌, ◌≤◌, List, ◌++◌, length, drop, get_or, replicate, refl, sym, ap, ◌∙◌, inl, inr, arith, mod-lt}
+use Rattle.std.proofs.Common.{◌≡◌, ℕ, zero, suc, ◌+◌, ◌-◌, ◌<◌, ◌≤◌, List, ◌++◌, length, drop, get_or, replicate, ap, ◌∙◌, arith, mod-lt}
 use Rattle.std.proofs.lemmas.List.{length-append, length-replicate, length-drop, get_or_append_left, get_or-append_right, get_or-replicate, get_or-drop}
 use Rattle.values.specs.Values.{HasType, word}
 use Rattle.syntax.specs.declared.record.Kind.TheVariants.{Channel, Stream}
@@ -10,10 +10,10 @@ use Rattle.schedule.specs.Plans.{HasRing}
 use Rattle.schedule.proofs.Taking.{channel_ring, stream_ring}
 use Rattle.evaluation.specs.Meaning.{Samples, Values}
 use Rattle.equations.specs.Equations.{equation_of, by_equation, Meets}
-use Rattle.rings.specs.Systems.{System, slot}
+use Rattle.rings.specs.Systems.{System}
 use Rattle.rings.specs.Memory.{RingHolds, RingsHold}
 use Rattle.rings.specs.Calls.{OpensRings}
-use Rattle.rings.specs.Steps.{worked_first, worked_through, opened}
+use Rattle.rings.specs.Steps.{worked_through, opened}
 use Rattle.rings.proofs.Fitting.{Fitting}
 use Rattle.rings.proofs.Ring.{recounted}
 use Rattle.rings.proofs.Ticking.{Ticks, samples_stay, values_grow}

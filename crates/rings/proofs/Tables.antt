@@ -1,31 +1,27 @@
 -- The rings of a table that the check accepts fit. Assumes nothing.
-use Rattle.std.proofs.Common.{◌≡◌, ℕ, zero, suc, ◌+◌, ◌-◌, ◌<◌, ◌≤◌, List, [], ◌∷◌, ℤ, pos, refl, sym, ap, ◌∙◌, inl, inr, arith}
-use Rattle.std.specs.List.{AllByRecursion}
+use Rattle.std.proofs.Common.{◌≡◌, ℕ, zero, suc, ◌+◌, ◌-◌, ◌<◌, ◌≤◌, List, [], pos, refl, ap, inl, inr, arith}
 use Rattle.std.proofs.ByRecursion.{All-weaker}
 use Rattle.std.proofs.lemmas.Bool.{cases_lt}
 use Rattle.std.proofs.lemmas.Int.{ints}
 use Rattle.syntax.specs.declared.record.Kind.{Kind}
 use Rattle.syntax.specs.declared.record.Kind.TheVariants.{Channel, Stream, Rule}
-use Rattle.syntax.specs.Trees.{Exp}
 use Rattle.syntax.specs.Entries.{Entry, count}
 use Rattle.names.specs.declared.uses.Name.{Name}
 use Rattle.names.specs.declared.uses.Name.TheVariants as name
-use Rattle.names.specs.Uses.{Use, uses, gathered}
+use Rattle.names.specs.Uses.{uses}
 use Rattle.references.specs.declared.reference.Id.{Id}
-use Rattle.references.specs.References.{reads, refer_name, refer, references}
+use Rattle.references.specs.References.{reads, refer_name, references}
 use Rattle.walks.specs.Walks.{In}
 use Rattle.schedule.specs.declared.plan.Plan.{Plan}
-use Rattle.schedule.specs.Edges.{Valid}
 use Rattle.schedule.specs.Graphs.{channel, stream, openings}
 use Rattle.schedule.specs.Plans.{HasRing, ring_count, slots_before, ring_in, length_in, lead_in, lead_of}
 use Rattle.schedule.proofs.Taking.{slots_more, slots_listed, channel_ring, stream_ring}
-use Rattle.evaluation.proofs.Agreeing.{all_left, all_right}
 use Rattle.equations.specs.Equations.{equation_of, opening_of}
 use Rattle.equations.specs.Alarms.{Rule as RuleOf, rules}
 use Rattle.equations.specs.Laws.{WellPlanned}
 use Rattle.equations.proofs.Greatest.{greatest, most}
 use Rattle.equations.proofs.Listing.{rule, ReadsAs, Listed, body_listed, rules_listed, openings_same, openings_none}
-use Rattle.equations.proofs.Ranking.{place, rank_of, order_of}
+use Rattle.equations.proofs.Ranking.{rank_of, order_of}
 use Rattle.equations.proofs.One.{exists}
 use Rattle.equations.proofs.Sound.{Reads}
 use Rattle.equations.proofs.Sounding.{served, rank_in, ranks, rule_reads, stream_reads, sound, on_the_past}

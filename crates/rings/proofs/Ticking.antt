@@ -1,9 +1,8 @@
 -- One tick, as a relation: what it makes of rings that hold the values of the ticks before it. Assumes nothing.
-use Rattle.std.proofs.Common.{◌≡◌, ℕ, zero, suc, ◌+◌, ◌-◌, ◌%◌, ◌<◌, ◌≤◌, List, length, get_or, pos, refl, sym, ap, ◌∙◌, subst, inl, inr, arith, mod-lt}
+use Rattle.std.proofs.Common.{◌≡◌, ℕ, zero, suc, ◌+◌, ◌-◌, ◌%◌, ◌<◌, ◌≤◌, List, length, get_or, pos, refl, sym, ap, ◌∙◌, inl, inr, arith, mod-lt}
 use Rattle.std.proofs.ByRecursion.{All-weaker}
 use Rattle.std.proofs.lemmas.Bool.{cases_lt, cases_eq}
 use Rattle.values.specs.Values.{wrap, word, HasType}
-use Rattle.syntax.specs.declared.record.Kind.{Kind}
 use Rattle.syntax.specs.declared.record.Kind.TheVariants.{Channel, Stream}
 use Rattle.syntax.specs.Entries.{count}
 use Rattle.names.specs.declared.uses.Name.{Name}
@@ -15,7 +14,7 @@ use Rattle.schedule.proofs.Taking.{channel_ring, stream_ring}
 use Rattle.evaluation.specs.Meaning.{Samples, Values, Same}
 use Rattle.equations.specs.Equations.{channel_type, equation_of, opening_of, by_equation, TypedSamples}
 use Rattle.equations.proofs.Reading.{same_equation}
-use Rattle.equations.proofs.Sound.{Reads, ReadsChannel, ReadsStream}
+use Rattle.equations.proofs.Sound.{Reads}
 use Rattle.rings.specs.Systems.{System, slot}
 use Rattle.rings.specs.Memory.{samples_in, values_in, RingHolds}
 use Rattle.rings.proofs.Fitting.{Keeps, Fitting}
