@@ -1,5 +1,5 @@
 -- The laws of opening, storing samples, judging and reading. Assumes nothing.
-use Rattle.std.proofs.Common.{false, ◌≡◌, ℕ, suc, ◌+◌, ◌-◌, ◌%◌, ◌<◌, ◌≤◌, List, length, get_or, refl, sym, ap, ◌∙◌, subst, inl, inr, arith, mod-lt, mod-eq_of_lt}
+use Rattle.std.proofs.Common.{false, ◌≡◌, ℕ, zero, suc, ◌+◌, ◌-◌, ◌%◌, ◌<◌, ◌≤◌, List, length, get_or, refl, sym, ap, ◌∙◌, subst, inl, inr, arith, mod-lt, mod-eq_of_lt}
 use Rattle.std.specs.List.{AllByRecursion}
 use Rattle.std.proofs.ByRecursion.{All-weaker, All-get_or}
 use Rattle.std.proofs.lemmas.Bool.{cases_eq}
@@ -23,12 +23,12 @@ use Rattle.equations.proofs.Calling.{same_arguments, same_calls}
 use Rattle.equations.proofs.Sound.{Reads}
 use Rattle.rings.specs.Systems.{System, slot}
 use Rattle.rings.specs.Memory.{samples_in, values_in, RingHolds, RingsHold, HoldsValues}
-use Rattle.rings.specs.Calls.{StoresSamples, Judges}
+use Rattle.rings.specs.Calls.{StoresSamples, Judges, OpensAndJudges}
 use Rattle.rings.specs.Laws.{Lawful}
 use Rattle.rings.proofs.Fitting.{Keeps, AllFit, RuleFits, Fitting}
 use Rattle.rings.proofs.Ring.{recounted, unchanged, grown, read_back}
 use Rattle.rings.proofs.Ticking.{Ticks, samples_stay, values_grow, channel_apart}
-use Rattle.rings.proofs.Only.{one_memory, one_opening}
+use Rattle.rings.proofs.Only.{one_memory, one_opening, one_storing, past_stored, past_judged}
 
 -- the tick n, counted from the first opening tick, is n + top
 module _ (S : System) (top n : ℕ) where
@@ -145,14 +145,23 @@ module _ (S : System) (order : List ℕ) (rank : ℕ → ℕ) (top : ℕ) (fitti
             values = held.values;
           }
 
+      ticked : (x : Samples) (n : ℕ) (old new : List ℕ) → OpensAndJudges S x n old new → TypedSamples S.records x n → HoldsValues S x n n new
+      ticked x zero old new opens typed = opens.held x
+      ticked x (suc n) old new (before, sampled, went, stores, judges) typed =
+          let e : n + 1 ≡ suc n = omega arith in
+          let held = ticked x n old before went (λ t c h. typed t c (omega (arith, h))) in
+          let joined = samples_kept x n (x n) before sampled stores (λ c l. refl) held in
+          subst (λ (k : ℕ). HoldsValues S x k k new) e (judged x n sampled new judges (λ t c h. typed t c (omega (arith, h))) joined)
+
       pub lawful : Lawful S
       lawful = record {
-        past = held_later;
-        samples = samples_kept;
-        judges = judged;
-        one_opened = λ old a b oa ob. let set = first (λ _ _. Bool false) in one_opening S order rank top fitting (λ _ _. Bool false) set.0 set.1 old a b oa ob;
-        one_judged = λ n old a b ja jb. one_memory S order rank top fitting n old a b ja jb;
-        shows = shown;
-        tells = told;
-        calls = called;
+        keeps = record { samples = samples_kept; judges = judged; ticks = ticked; past = held_later };
+        makes = record {
+          opened = λ old a b oa ob. let set = first (λ _ _. Bool false) in one_opening S order rank top fitting (λ _ _. Bool false) set.0 set.1 old a b oa ob;
+          stored = one_storing S;
+          judged = λ n old a b ja jb. one_memory S order rank top fitting n old a b ja jb;
+          past_stored = past_stored S order rank top fitting;
+          past_judged = past_judged S order rank top fitting;
+        };
+        reads = record { newest = shown; rules_at = told; alarms = called };
       }

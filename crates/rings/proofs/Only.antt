@@ -1,8 +1,9 @@
--- Opening makes one memory of what was there, and so does judging. Assumes nothing.
+-- Opening, storing samples and judging each make one memory of what was there, and leave the slots past the rings. Assumes nothing.
 use Rattle.std.proofs.Common.{refl, ◌≡◌, ℕ, zero, suc, ◌+◌, ◌-◌, ◌%◌, ◌<◌, ◌≤◌, List, get_or, pos, sym, ap, ◌∙◌, inl, inr, arith, mod-lt}
 use Rattle.std.proofs.ByRecursion.{All-weaker}
 use Rattle.std.proofs.lemmas.Bool.{cases_lt, cases_eq}
 use Rattle.std.proofs.lemmas.List.{ext_get_or}
+use Rattle.values.specs.declared.value.Value.{Value}
 use Rattle.values.specs.Values.{wrap, word}
 use Rattle.syntax.specs.declared.record.Kind.{Kind}
 use Rattle.syntax.specs.declared.record.Kind.TheVariants.{Channel, Stream, Rule}
@@ -10,6 +11,7 @@ use Rattle.syntax.specs.Entries.{count}
 use Rattle.names.specs.declared.uses.Name.{Name}
 use Rattle.names.specs.declared.uses.Name.TheVariants as name
 use Rattle.names.specs.Uses.{uses}
+use Rattle.references.specs.declared.reference.Id.{Id}
 use Rattle.schedule.specs.Graphs.{channel, stream}
 use Rattle.schedule.specs.Plans.{HasRing}
 use Rattle.schedule.proofs.Taking.{channel_ring, stream_ring}
@@ -19,7 +21,7 @@ use Rattle.equations.proofs.Reading.{same_equation}
 use Rattle.equations.proofs.Sound.{Reads}
 use Rattle.rings.specs.Systems.{System, slot}
 use Rattle.rings.specs.Memory.{samples_in, values_in}
-use Rattle.rings.specs.Calls.{OpensRings, Judges}
+use Rattle.rings.specs.Calls.{OpensRings, StoresSamples, Judges}
 use Rattle.rings.proofs.Fitting.{Keeps, Fitting}
 use Rattle.rings.proofs.Ring.{slots_apart, one_ring}
 use Rattle.rings.proofs.Ticking.{channel_apart, stream_apart}
@@ -105,3 +107,20 @@ module _ (S : System) (order : List ℕ) (rank : ℕ → ℕ) (top : ℕ) (fitti
           ap (λ (i : ℕ). get_or a i 0) c.is ∙ same_ring c.id.kind c.id.number c.ring c.at c.small ∙ ap (λ (i : ℕ). get_or b i 0) (sym c.is)
       | inr l ↦ oa.past k l ∙ sym (ob.past k l)
     ])
+
+pub one_storing : (S : System) (n : ℕ) (row : ℕ → Value) (old a b : List ℕ) → StoresSamples S n row old a → StoresSamples S n row old b → a ≡ b
+one_storing S n row old a b sa sb = ext_get_or 0 a b (sa.long ∙ sym sb.long) (λ k _. elim (among (λ c. slot S (channel c) n) (count Channel S.records) k) [
+  | one c l e ↦ ap (λ (i : ℕ). get_or a i 0) e ∙ sa.stored c l ∙ sym (sb.stored c l) ∙ ap (λ (i : ℕ). get_or b i 0) (sym e)
+  | none h ↦ sa.others k h ∙ sym (sb.others k h)
+])
+
+-- a slot past the rings is none of a ring's
+module _ (S : System) (order : List ℕ) (rank : ℕ → ℕ) (top : ℕ) (fitting : Fitting S order rank top) where
+  outside : (id : Id) (i k : ℕ) → HasRing S.records id → S.slots ≤ k → ¬ (k ≡ slot S id i)
+  outside id i k h l e = omega (arith, l, e, fitting.within id h, mod-lt i (fitting.some id h))
+
+  pub past_stored : (n : ℕ) (row : ℕ → Value) (old new : List ℕ) → StoresSamples S n row old new → (k : ℕ) → S.slots ≤ k → get_or new k 0 ≡ get_or old k 0
+  past_stored n row old new s k l = s.others k (λ c lc. outside (channel c) n k (channel_ring S.records c lc) l)
+
+  pub past_judged : (n : ℕ) (old new : List ℕ) → Judges S n old new → (k : ℕ) → S.slots ≤ k → get_or new k 0 ≡ get_or old k 0
+  past_judged n old new j k l = j.others k (λ s ls. outside (stream s) (n + S.lead s) k (stream_ring S.records s ls) l)

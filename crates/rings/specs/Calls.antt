@@ -1,5 +1,5 @@
 -- What opening, storing a tick's samples and judging it make of the memory: of every slot, also of those that they leave. Assumes nothing.
-use Rattle.std.specs.Prelude.{◌≡◌, ℕ, ◌+◌, ◌<◌, ◌≤◌, List, length, slice_index}
+use Rattle.std.specs.Prelude.{◌≡◌, ℕ, zero, suc, ◌+◌, ◌<◌, ◌≤◌, List, length, slice_index}
 use Rattle.values.specs.declared.value.Value.{Value}
 use Rattle.values.specs.Values.{word}
 use Rattle.syntax.specs.declared.record.Kind.TheVariants.{Channel, Stream}
@@ -28,3 +28,9 @@ pub record Judges (S : System) (n : ℕ) (old new : List ℕ) : Type 0 where
       slice_index new (slot S (stream s) (n + S.lead s)) ≡ word (by_equation S.records (samples_in S new) (values_in S new) s (n + S.lead s))
   pub others : (k : ℕ) → ((s : ℕ) → s < count Stream S.records → ¬ (k ≡ slot S (stream s) (n + S.lead s))) → slice_index new k ≡ slice_index old k
   pub long : length new ≡ length old
+
+-- the rings opened, and then the samples of each of the first n ticks stored and the tick judged
+abbrev pub OpensAndJudges : System → Samples → ℕ → List ℕ → List ℕ → Type 0
+OpensAndJudges S x zero old new = OpensRings S old new
+OpensAndJudges S x (suc n) old new =
+    (judged sampled : List ℕ) × OpensAndJudges S x n old judged × StoresSamples S n (x n) judged sampled × Judges S n sampled new
