@@ -17,7 +17,7 @@ use Rattle.equations.proofs.Listing.{type_same}
 use Rattle.equations.proofs.Reading.{same_equation}
 use Rattle.equations.proofs.Sound.{Reads, ReadsStream, Sound}
 
-module _ (rs : List Entry) (lead rank : ℕ → ℕ) (sound : Sound rs lead rank) where
+module _ (rs : List Entry) (lead rank : ℕ → ℕ) (top : ℕ) (sound : Sound rs lead rank top) where
   abbrev streams : ℕ
   streams = count Stream rs
 
@@ -26,14 +26,14 @@ module _ (rs : List Entry) (lead rank : ℕ → ℕ) (sound : Sound rs lead rank
 
   -- the tick, counted from the first opening tick, and the rank in one number
   height : ℕ → ℕ → ℕ
-  height s i = streams * (i + (sound.top - lead s)) + rank s
+  height s i = streams * (i + (top - lead s)) + rank s
 
   -- what is read is lower,
   lower : (s i q d : ℕ) → s < streams → opening_of rs s ≤ i → reads_stream s q d → height q (i - opening_of rs s + d) < height s i
   unfolding height
   lower s i q d l h r =
-      let b : ℕ = i - opening_of rs s + d + (sound.top - lead q) in
-      let a : ℕ = i + (sound.top - lead s) in
+      let b : ℕ = i - opening_of rs s + d + (top - lead q) in
+      let a : ℕ = i + (top - lead s) in
       let up : b ≤ a = omega (arith, r.ahead, h, sound.most s l, sound.most q r.known) in
       elim (cases_eq (lead s + d) (lead q + opening_of rs s)) [
         | inl e ↦

@@ -16,7 +16,7 @@ use Rattle.equations.proofs.Reading.{same_equation}
 use Rattle.equations.proofs.Sound.{Reads, AllRead, RuleReads, Sound}
 use Rattle.equations.proofs.One.{unique}
 
-module _ (rs : List Entry) (lead rank : ℕ → ℕ) (sound : Sound rs lead rank) (x y : Samples) (n : ℕ) (same : SameSamples rs n x y) where
+module _ (rs : List Entry) (lead rank : ℕ → ℕ) (top : ℕ) (sound : Sound rs lead rank top) (x y : Samples) (n : ℕ) (same : SameSamples rs n x y) where
   pub meets_later : (v : Values) → Meets rs lead x n v → Meets rs lead y n v
   meets_later v meets s i l h = (
     (meets s i l h).0,
@@ -32,7 +32,7 @@ module _ (rs : List Entry) (lead rank : ℕ → ℕ) (sound : Sound rs lead rank
     module _ (t : ℕ) (l : t < n) where
       found : (m : Name) → Reads rs lead rank 0 0 (count Stream rs) m → Same x v y w t m
       found (name.Channel c) r = same t c l r.known
-      found (name.Stream q d) r = unique rs lead rank sound y n v w (meets_later v mv) mw q (t + d) r.known (omega (arith, l, r.ahead))
+      found (name.Stream q d) r = unique rs lead rank top sound y n v w (meets_later v mv) mw q (t + d) r.known (omega (arith, l, r.ahead))
 
       same_value : (e : Exp) → AllRead rs lead rank 0 0 (count Stream rs) (uses e) → meaning x v t e ≡ meaning y w t e
       same_value e read = depends_on_names e x v y w t (All-weaker _ _ (λ u. found u.name) (uses e) read)

@@ -37,8 +37,8 @@ pub record RuleReads (rs : List Entry) (leads ranks : ℕ → ℕ) (r : Rule) : 
   pub guard : AllRead rs leads ranks 0 0 (count Stream rs) (uses r.guard)
   pub arguments : AllByRecursion (λ e. AllRead rs leads ranks 0 0 (count Stream rs) (uses e)) r.arguments
 
-pub record Sound (rs : List Entry) (lead rank : ℕ → ℕ) : Type 0 where
-  pub top : ℕ
+-- with no lead above `top`
+pub record Sound (rs : List Entry) (lead rank : ℕ → ℕ) (top : ℕ) : Type 0 where
   pub most : (s : ℕ) → s < count Stream rs → lead s ≤ top
   pub ranked : (s : ℕ) → s < count Stream rs → rank s < count Stream rs
   pub reads : (s : ℕ) → s < count Stream rs → AllRead rs lead rank (lead s) (opening_of rs s) (rank s) (uses (equation_of rs s).body)

@@ -1,5 +1,8 @@
 -- What the check of a table shows makes its equations sound. Assumes nothing.
-use Rattle.std.proofs.Common.{◌≡◌, ℕ, ◌+◌, ◌<◌, List, [], pos, refl, sym, ap, arith}
+use Rattle.std.proofs.Common.{◌≡◌, ℕ, ◌+◌, ◌<◌, ◌≤◌, List, [], pos, refl, sym, ap, arith}
+use Rattle.std.proofs.Math.Logic.{∥∥₁_elim}
+use Rattle.std.proofs.Math.Nat.{ℕ_set}
+use Rattle.std.specs.List.{AllByRecursion}
 use Rattle.std.proofs.ByRecursion.{All-weaker}
 use Rattle.std.proofs.lemmas.Int.{ints}
 use Rattle.syntax.specs.declared.record.Kind.TheVariants.{Channel, Stream}
@@ -23,9 +26,9 @@ use Rattle.schedule.proofs.Serving.{serves}
 use Rattle.schedule.proofs.Standing.{orderly}
 use Rattle.evaluation.proofs.Ranges.{meaning_typed}
 use Rattle.evaluation.specs.Meaning.{Samples, Values}
-use Rattle.equations.specs.Equations.{Leads, equation_of, opening_of, Meets}
+use Rattle.equations.specs.Equations.{Leads, equation_of, opening_of, TypedSamples, Meets, OneSet}
 use Rattle.equations.specs.Alarms.{Rule, rules}
-use Rattle.equations.specs.Laws.{WellPlanned, ExactlyOne, AtMostOne, OnThePast}
+use Rattle.equations.specs.Laws.{WellPlanned, ExactlyOne, AtMostOne, RestsOnThePast, OnThePast}
 use Rattle.equations.proofs.Listing.{stream_record, of_stream, rule, ReadsAs, Listed, body_listed, rules_listed, openings_same, openings_none}
 use Rattle.equations.proofs.Ranking.{place, ranked, order_of}
 use Rattle.equations.proofs.Greatest.{greatest, most}
@@ -81,10 +84,12 @@ module _ (rs : List Entry) (p : Plan) (w : WellPlanned rs p) where
   small : (s : ℕ) → s < count Stream rs → Small (stream_record (equation_of rs s))
   small s l = of_stream Small rs w.order.small s l
 
-  pub sound : Sound rs (lead_in p) rank_in
-  sound = record {
-    top = greatest (lead_in p) (count Stream rs);
-    most = most (lead_in p) (count Stream rs);
+  pub leads : Leads rs (lead_in p)
+  leads s l = ∣ w.planned.measured.leads s l ∣₁
+
+  pub sound : (top : ℕ) → ((s : ℕ) → s < count Stream rs → lead_in p s ≤ top) → Sound rs (lead_in p) rank_in top
+  sound top most = record {
+    most = most;
     ranked = ranks;
     reads = λ s l. All-weaker _ _ (λ u. stream_reads s l u.name) (uses (equation_of rs s).body) (body_listed rs s l);
     rules_read = All-weaker _ _ rule_sound (rules rs) (rules_listed rs);
@@ -94,41 +99,52 @@ module _ (rs : List Entry) (p : Plan) (w : WellPlanned rs p) where
         (of_stream (EntryTyped (channel_types rs) (stream_types rs)) rs (all_typed rs w.types) s l) (small s l).2;
   }
 
-pub exactly_one : ExactlyOne
-exactly_one rs p w x n typed =
-    let s = sound rs p w in
-    let e = exists rs (lead_in p) (rank_in rs p w) s x n typed in
+-- exactly one set meets the equations that are sound
+abbrev pub one_set : (rs : List Entry) (lead rank : ℕ → ℕ) (top : ℕ) → Sound rs lead rank top → Leads rs lead → (x : Samples) (n : ℕ) → TypedSamples rs x n → OneSet rs x n
+one_set rs lead rank top sound leads x n typed =
+    let e = exists rs lead rank top sound x n typed in
     record {
-      lead = lead_in p;
-      leads = w.planned.measured.leads;
+      lead = lead;
+      leads = leads;
       values = e.0;
       meets = e.1;
-      only = λ v m. unique rs (lead_in p) (rank_in rs p w) s x n v e.0 m e.1;
+      only = λ v m. unique rs lead rank top sound x n v e.0 m e.1;
     }
+
+abbrev top_of : List Entry → Plan → ℕ
+top_of rs p = greatest (lead_in p) (count Stream rs)
+
+sound_of : (rs : List Entry) (p : Plan) (w : WellPlanned rs p) → Sound rs (lead_in p) (rank_in rs p w) (top_of rs p)
+sound_of rs p w = sound rs p w (top_of rs p) (most (lead_in p) (count Stream rs))
+
+pub exactly_one : ExactlyOne
+exactly_one rs p w x n typed = one_set rs (lead_in p) (rank_in rs p w) (top_of rs p) (sound_of rs p w) (leads rs p w) x n typed
 
 -- a stream has one lead
 same_lead : (rs : List Entry) (lead lead' : ℕ → ℕ) → Leads rs lead → Leads rs lead' → (s : ℕ) → s < count Stream rs → lead s ≡ lead' s
 same_lead rs lead lead' f g s l =
-    let (a, v, goes, weighs) = (f s l).reached in
-    let (b, w, goes', weighs') = (g s l).reached in
-    omega (arith, ints, (g s l).most a v goes, (f s l).most b w goes', weighs, weighs')
+    ∥∥₁_elim (f s l) (ℕ_set _ _) (λ a. ∥∥₁_elim (g s l) (ℕ_set _ _) (λ b.
+    let (_, v, goes, weighs) = a.reached in
+    let (_, w, goes', weighs') = b.reached in
+    omega (arith, ints, b.most _ v goes, a.most _ w goes', weighs, weighs')))
 
 meets_by : (rs : List Entry) (lead lead' : ℕ → ℕ) → Leads rs lead → Leads rs lead' → (x : Samples) (n : ℕ) (v : Values) → Meets rs lead x n v → Meets rs lead' x n v
 meets_by rs lead lead' f g x n v meets s i l h = meets s i l (omega (arith, h, same_lead rs lead lead' f g s l))
 
 pub at_most_one : AtMostOne
-at_most_one rs p w lead leads x n v u mv mu s i l h =
-    let by = meets_by rs lead (lead_in p) leads w.planned.measured.leads x n in
-    unique rs (lead_in p) (rank_in rs p w) (sound rs p w) x n v u (by v mv) (by u mu) s i l (omega (arith, h, same_lead rs lead (lead_in p) leads w.planned.measured.leads s l))
+at_most_one rs p w lead is x n v u mv mu s i l h =
+    let by = meets_by rs lead (lead_in p) is (leads rs p w) x n in
+    unique rs (lead_in p) (rank_in rs p w) (top_of rs p) (sound_of rs p w) x n v u (by v mv) (by u mu) s i l (omega (arith, h, same_lead rs lead (lead_in p) is (leads rs p w) s l))
+
+-- what is sound rests on the past
+pub past_of : (rs : List Entry) (lead rank : ℕ → ℕ) (top : ℕ) → Sound rs lead rank top → Leads rs lead → RestsOnThePast rs
+past_of rs lead rank top sound own =
+    let to : (lead' : ℕ → ℕ) → Leads rs lead' → (x : Samples) (n : ℕ) (v : Values) → Meets rs lead' x n v → Meets rs lead x n v =
+    λ lead' is. meets_by rs lead' lead is own in
+    record {
+      values = λ lead' is x y n same v m. meets_by rs lead lead' own is y n v (meets_later rs lead rank top sound x y n same v (to lead' is x n v m));
+      alarms = λ lead' is x y n same v u mv mu. same_called rs lead rank top sound x y n same v u (to lead' is x n v mv) (to lead' is y n u mu) n (omega arith);
+    }
 
 pub on_the_past : OnThePast
-on_the_past rs p w =
-    let s = sound rs p w in
-    let to : (lead : ℕ → ℕ) → Leads rs lead → (x : Samples) (n : ℕ) (v : Values) → Meets rs lead x n v → Meets rs (lead_in p) x n v =
-    λ lead leads. meets_by rs lead (lead_in p) leads w.planned.measured.leads in
-    record {
-      values = λ lead leads x y n same v m.
-          meets_by rs (lead_in p) lead w.planned.measured.leads leads y n v (meets_later rs (lead_in p) (rank_in rs p w) s x y n same v (to lead leads x n v m));
-      alarms = λ lead leads x y n same v u mv mu.
-          same_called rs (lead_in p) (rank_in rs p w) s x y n same v u (to lead leads x n v mv) (to lead leads y n u mu) n (omega arith);
-    }
+on_the_past rs p w = past_of rs (lead_in p) (rank_in rs p w) (top_of rs p) (sound_of rs p w) (leads rs p w)

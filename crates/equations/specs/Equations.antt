@@ -48,9 +48,9 @@ by_equation rs x v s i =
     let n = length e.opening in
     if nat_lt i n then slice_index_or e.opening i (Bool false) else meaning x v (i - n) e.body
 
--- each stream's lead is the greatest weight of any walk that ends in it
+-- each stream's lead is the greatest weight of any walk that ends in it; which walk has it is not said
 abbrev pub Leads : List Entry → (ℕ → ℕ) → Type 0
-Leads rs lead = (s : ℕ) → s < count Stream rs → Lead (graph rs) (stream s) (pos (lead s))
+Leads rs lead = (s : ℕ) → s < count Stream rs → ∥ Lead (graph rs) (stream s) (pos (lead s)) ∥₁
 
 -- each declared channel has a sample of its type at each of the first n ticks
 abbrev pub TypedSamples : List Entry → Samples → ℕ → Type 0

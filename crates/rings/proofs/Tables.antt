@@ -24,7 +24,7 @@ use Rattle.equations.proofs.Listing.{rule, ReadsAs, Listed, body_listed, rules_l
 use Rattle.equations.proofs.Ranking.{rank_of, order_of}
 use Rattle.equations.proofs.One.{exists}
 use Rattle.equations.proofs.Sound.{Reads}
-use Rattle.equations.proofs.Sounding.{served, rank_in, ranks, rule_reads, stream_reads, sound, on_the_past}
+use Rattle.equations.proofs.Sounding.{served, rank_in, ranks, rule_reads, stream_reads, leads, sound, on_the_past}
 use Rattle.rings.specs.Systems.{System, system_of}
 use Rattle.rings.specs.Laws.{Laws}
 use Rattle.rings.proofs.Keeping.{lawful}
@@ -161,5 +161,5 @@ pub laws : Laws
 laws rs p w =
     let top = greatest (lead_in p) (count Stream rs) in
     lawful (system_of rs p) p.order.items (rank_in rs p w) top (fitting rs p w top (most (lead_in p) (count Stream rs)))
-    ((on_the_past rs p w).values (lead_in p) w.planned.measured.leads)
-    (λ x. exists rs (lead_in p) (rank_in rs p w) (sound rs p w) x 0 (λ t c h. absurd (omega (arith, h))))
+    ((on_the_past rs p w).values (lead_in p) (leads rs p w))
+    (λ x. exists rs (lead_in p) (rank_in rs p w) top (sound rs p w top (most (lead_in p) (count Stream rs))) x 0 (λ t c h. absurd (omega (arith, h))))

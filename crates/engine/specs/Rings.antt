@@ -1,0 +1,30 @@
+-- A table's values in memory. Assumes nothing.
+use Rattle.std.specs.Prelude.{◌≡◌, ℕ, ◌+◌, ◌≤◌, List, length, slice_index_or, false}
+use Rattle.values.specs.declared.value.Value.{Value}
+use Rattle.values.specs.declared.value.Value.TheVariants.{Bool}
+use Rattle.evaluation.specs.Meaning.{Samples, Values, meaning}
+use Rattle.syntax.specs.Trees.{Exp}
+use Rattle.rings.specs.Systems.{System, system_of}
+use Rattle.rings.specs.Memory.{samples_in, values_in}
+use Rattle.tables.specs.declared.table.Table.{Table}
+use Rattle.tables.specs.Tables.{records_of, plan_of}
+
+-- a table's records, and where its values lie
+abbrev pub rings_of : Table → System
+rings_of t = system_of (records_of t) (plan_of t)
+
+-- the lead of a stream
+abbrev pub lead_of : Table → ℕ → ℕ
+lead_of t s = (rings_of t).lead s
+
+-- its rings lie in the memory
+abbrev pub HasRoom : Table → List ℕ → Type 0
+HasRoom t mem = (plan_of t).counts.slots ≤ length mem
+
+-- an expression at p, by what the slots hold
+abbrev pub read_at : Table → List ℕ → ℕ → Exp → Value
+read_at t mem p e = meaning (samples_in (rings_of t) mem) (values_in (rings_of t) mem) p e
+
+-- the values of a row by channel
+abbrev pub value_at : List Value → ℕ → Value
+value_at row c = slice_index_or row c (Bool false)
