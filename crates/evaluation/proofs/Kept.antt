@@ -1,11 +1,11 @@
 -- A typed expression is no deeper than its types were sought, and its meaning has its type. Assumes nothing.
 use Rattle.std.proofs.Common.{◌≡◌, ℕ, zero, suc, ◌≤◌, Bool as Truth, true, false, cond, ◌&&◌, List, ◌++◌, ℤ, Some, None, Ok, Err, Option, Result, sym, refl, ap, ◌∙◌, arith}
-use Rattle.std.proofs.lemmas.Bool.{cond_both, and_parts, eqb-true}
+use Rattle.std.proofs.lemmas.Bool.{and_parts}
 use Rattle.faults.specs.Causes.{Refusal}
 use Rattle.values.specs.declared.types.«Type».{«Type» as Ty}
 use Rattle.values.specs.declared.types.«Type».TheVariants.{Bool}
 use Rattle.values.specs.declared.value.Value.{Value}
-use Rattle.values.specs.Types.{code, type_coded, casts}
+use Rattle.values.specs.Types.{casts}
 use Rattle.values.specs.Values.{type_of, num, wrap, modulo, Proper}
 use Rattle.values.specs.Types.{width}
 use Rattle.values.proofs.Wrapping.{low_type}
@@ -16,11 +16,10 @@ use Rattle.operators.specs.declared.operator.Binary.TheVariants.{And, Or, Add, S
 use Rattle.operators.specs.Operators.{truth, unary, binary}
 use Rattle.syntax.specs.Trees.{Exp}
 use Rattle.syntax.specs.Trees as tree
-use Rattle.syntax.proofs.Parts.{type_back}
 use Rattle.names.specs.Uses.{uses}
-use Rattle.typing.specs.Rules.{same, where_fit, unary_type, binary_type, settled, divided}
-use Rattle.syntax.specs.Passing.{then}
-use Rattle.typing.specs.Typing.{fitted, operand, shape}
+use Rattle.typing.specs.Rules.{same, where_fit, unary_type, binary_type}
+use Rattle.typing.specs.Typing.{fitted, shape}
+use Rattle.typing.proofs.WellTyped.{same_true, operand_ok}
 use Rattle.evaluation.specs.Meaning.{Samples, Values, meaning, value_within, levels}
 use Rattle.evaluation.specs.Kept.{OfTypes, HasMeaning}
 use Rattle.evaluation.proofs.Agreeing.{all_left, all_right}
@@ -31,10 +30,6 @@ use Rattle.evaluation.proofs.Levels.{whole}
 refused : {X : Type 0} {c : Refusal} {x : X} → ◌≡◌ {A = Result X Refusal} (Err c) (Ok x) → ⊥
 refused e = cc
 
-then_ok : {X Y : Type 0} (r : Result X Refusal) (f : X → Result Y Refusal) (y : Y) → then r f ≡ Ok y → (x : X) × (r ≡ Ok x) × (f x ≡ Ok y)
-then_ok (Ok x) f y e = (x, refl, e)
-then_ok (Err c) f y e = absurd (refused e)
-
 fitted_ok : (at : ℕ) (o : Option Ty) (t : Ty) → fitted at o ≡ Ok t → o ≡ Some t
 fitted_ok at (Some u) t e = cc
 fitted_ok at None t e = cc
@@ -42,20 +37,6 @@ fitted_ok at None t e = cc
 fit_ok : (b : Truth) (t u : Ty) → where_fit b t ≡ Some u → (b ≡ true) × (t ≡ u)
 fit_ok true t u e = (refl, (cc))
 fit_ok false t u e = absurd (cc)
-
-settled_ok : (e : Exp) (t u : Ty) → settled e t ≡ Ok u → t ≡ u
-settled_ok e t u = cond_both (divided e) (Ok t) (Err _) (λ r. r ≡ Ok u → t ≡ u) (λ _ h. cc) (λ _ h. absurd (refused h))
-
--- types with one code are one
-same_true : (t u : Ty) → same t u ≡ true → t ≡ u
-same_true t u e =
-    let back : Some t ≡ Some u = sym (type_back t) ∙ ap type_coded (eqb-true (code t) (code u) e) ∙ type_back u in
-    cc
-
-operand_ok : (sub : Exp → Result Ty Refusal) (e : Exp) (t : Ty) → operand sub e ≡ Ok t → sub e ≡ Ok t
-operand_ok sub e t h =
-    let p = then_ok (sub e) (settled e) t h in
-    p.1 ∙ ap Ok (settled_ok e p.0 t p.2)
 
 wrap_type : (t : Ty) (z : ℤ) → type_of (wrap t z) ≡ t
 wrap_type t z = low_type t (modulo (width t) z)
@@ -87,30 +68,19 @@ chosen_kept true v w t u r e f same is = e ∙ is
 chosen_kept false v w t u r e f same is = f ∙ sym same ∙ is
 
 module _ (cs ss : List Ty) where
-  -- what an accepted expression's operands are
-  record One (d : ℕ) (e : Exp) (P : Ty → Type 0) : Type 0 where
-    type : Ty
-    typed : shape cs ss d e ≡ Ok type
-    rest : P type
-
-  one : (d : ℕ) (e : Exp) (f : Ty → Result Ty Refusal) (t : Ty) → then (operand (shape cs ss d) e) f ≡ Ok t → One d e (λ u. f u ≡ Ok t)
-  one d e f t h =
-      let p = then_ok (operand (shape cs ss d) e) f t h in
-      record { type = p.0; typed = operand_ok (shape cs ss d) e p.0 p.1; rest = p.2 }
-
   pub shallow : (d : ℕ) (e : Exp) (t : Ty) → shape cs ss d e ≡ Ok t → levels e ≤ d
   unfolding shape
   shallow zero e t h = absurd (refused h)
   shallow (suc d) (tree.constant at v) t h = omega arith
   shallow (suc d) (tree.channel at i) t h = omega arith
   shallow (suc d) (tree.stream at i x) t h = omega arith
-  shallow (suc d) (tree.unary at o e) t h = let p = one d e _ t h in let l = shallow d e p.type p.typed in omega arith
-  shallow (suc d) (tree.cast at u e) t h = let p = one d e _ t h in let l = shallow d e p.type p.typed in omega arith
+  shallow (suc d) (tree.unary at o e) t h = let p = operand_ok cs ss d e _ t h in let l = shallow d e p.type p.typed in omega arith
+  shallow (suc d) (tree.cast at u e) t h = let p = operand_ok cs ss d e _ t h in let l = shallow d e p.type p.typed in omega arith
   shallow (suc d) (tree.binary at o a b) t h =
-      let p = one d a _ t h in let q = one d b _ t p.rest in
+      let p = operand_ok cs ss d a _ t h in let q = operand_ok cs ss d b _ t p.rest in
       let l = shallow d a p.type p.typed in let m = shallow d b q.type q.typed in omega arith
   shallow (suc d) (tree.choose at c a b) t h =
-      let o = one d c _ t h in let p = one d a _ t o.rest in let q = one d b _ t p.rest in
+      let o = operand_ok cs ss d c _ t h in let p = operand_ok cs ss d a _ t o.rest in let q = operand_ok cs ss d b _ t p.rest in
       let k = shallow d c o.type o.typed in let l = shallow d a p.type p.typed in let m = shallow d b q.type q.typed in omega arith
 
   module _ (x : Samples) (v : Values) (p : ℕ) where
@@ -121,16 +91,16 @@ module _ (cs ss : List Ty) where
     kept (suc d) (tree.channel at i) t h w = let k = w.0.0 in cc
     kept (suc d) (tree.stream at i y) t h w = let k = w.0.0 in cc
     kept (suc d) (tree.unary at o e) t h w =
-        let q = one d e _ t h in
+        let q = operand_ok cs ss d e _ t h in
         unary_kept o (meaning x v p e) q.type t (kept d e q.type q.typed w) (fitted_ok at (unary_type o q.type) t q.rest)
     kept (suc d) (tree.cast at u e) t h w =
-        let q = one d e _ t h in
+        let q = operand_ok cs ss d e _ t h in
         wrap_type u (num (meaning x v p e)) ∙ (fit_ok (casts q.type u) u t (fitted_ok at (where_fit (casts q.type u) u) t q.rest)).1
     kept (suc d) (tree.binary at o a b) t h w =
-        let q = one d a _ t h in let r = one d b _ t q.rest in
+        let q = operand_ok cs ss d a _ t h in let r = operand_ok cs ss d b _ t q.rest in
         binary_kept o (meaning x v p a) (meaning x v p b) q.type r.type t (kept d a q.type q.typed (all_left _ (uses a) (uses b) w)) (fitted_ok at (binary_type o q.type r.type) t r.rest)
     kept (suc d) (tree.choose at y a b) t h w =
-        let o = one d y _ t h in let q = one d a _ t o.rest in let r = one d b _ t q.rest in
+        let o = operand_ok cs ss d y _ t h in let q = operand_ok cs ss d a _ t o.rest in let r = operand_ok cs ss d b _ t q.rest in
         let rest = all_right _ (uses y) (uses a ++ uses b) w in
         let test = same o.type Bool && same q.type r.type in
         let f = fit_ok test q.type t (fitted_ok at (where_fit test q.type) t r.rest) in
