@@ -21,25 +21,25 @@ use Rattle.tables.proofs.Passing.{passes}
 use Rattle.tables.proofs.Sorting.{length_of_kind}
 
 -- ---- the types of the records of a kind
-types_of_channels : (rs : List Entry) → channel_types (of_kind kind.Channel rs) ≡ channel_types rs
-types_of_channels [] = refl
-types_of_channels (entry.channel t ∷ rs) = ap (λ l. t ∷ l) (types_of_channels rs)
-types_of_channels (entry.stream t vs e ∷ rs) = types_of_channels rs
-types_of_channels (entry.rule g es ∷ rs) = types_of_channels rs
+channel_types_of_kind : (rs : List Entry) → channel_types (of_kind kind.Channel rs) ≡ channel_types rs
+channel_types_of_kind [] = refl
+channel_types_of_kind (entry.channel t ∷ rs) = ap (λ l. t ∷ l) (channel_types_of_kind rs)
+channel_types_of_kind (entry.stream t vs e ∷ rs) = channel_types_of_kind rs
+channel_types_of_kind (entry.rule g es ∷ rs) = channel_types_of_kind rs
 
-types_of_streams : (rs : List Entry) → stream_types (of_kind kind.Stream rs) ≡ stream_types rs
-types_of_streams [] = refl
-types_of_streams (entry.channel t ∷ rs) = types_of_streams rs
-types_of_streams (entry.stream t vs e ∷ rs) = ap (λ l. t ∷ l) (types_of_streams rs)
-types_of_streams (entry.rule g es ∷ rs) = types_of_streams rs
+stream_types_of_kind : (rs : List Entry) → stream_types (of_kind kind.Stream rs) ≡ stream_types rs
+stream_types_of_kind [] = refl
+stream_types_of_kind (entry.channel t ∷ rs) = stream_types_of_kind rs
+stream_types_of_kind (entry.stream t vs e ∷ rs) = ap (λ l. t ∷ l) (stream_types_of_kind rs)
+stream_types_of_kind (entry.rule g es ∷ rs) = stream_types_of_kind rs
 
-types_by_channel : (cs : List Channel) → map (λ c. c.ty) cs ≡ channel_types (map channel_entry cs)
-types_by_channel [] = refl
-types_by_channel (c ∷ cs) = ap (λ l. c.ty ∷ l) (types_by_channel cs)
+channel_types_by : (cs : List Channel) → map (λ c. c.ty) cs ≡ channel_types (map channel_entry cs)
+channel_types_by [] = refl
+channel_types_by (c ∷ cs) = ap (λ l. c.ty ∷ l) (channel_types_by cs)
 
-types_by_stream : (ss : List Stream) → map (λ s. s.ty) ss ≡ stream_types (map stream_entry ss)
-types_by_stream [] = refl
-types_by_stream (s ∷ ss) = ap (λ l. s.ty ∷ l) (types_by_stream ss)
+stream_types_by : (ss : List Stream) → map (λ s. s.ty) ss ≡ stream_types (map stream_entry ss)
+stream_types_by [] = refl
+stream_types_by (s ∷ ss) = ap (λ l. s.ty ∷ l) (stream_types_by ss)
 
 module _ (t : Table) (a : IsAccepted t) where
   pub well_typed : types_in (records_of t) ≡ Ok tt
@@ -55,15 +55,15 @@ module _ (t : Table) (a : IsAccepted t) where
   pub rule_count : length (rules_of t) ≡ count kind.Rule (records_of t)
   rule_count = sym (length-map (rules_of t) rule_entry) ∙ ap length a.sorts.kinds.rules_are ∙ length_of_kind kind.Rule (records_of t)
 
-  pub types_of_its_channels : map (λ c. c.ty) (channels_of t) ≡ channel_types (records_of t)
-  types_of_its_channels = types_by_channel (channels_of t) ∙ ap channel_types a.sorts.kinds.channels_are ∙ types_of_channels (records_of t)
+  pub channel_types_are : map (λ c. c.ty) (channels_of t) ≡ channel_types (records_of t)
+  channel_types_are = channel_types_by (channels_of t) ∙ ap channel_types a.sorts.kinds.channels_are ∙ channel_types_of_kind (records_of t)
 
-  pub types_of_its_streams : map (λ s. s.ty) (streams_of t) ≡ stream_types (records_of t)
-  types_of_its_streams = types_by_stream (streams_of t) ∙ ap stream_types a.sorts.kinds.streams_are ∙ types_of_streams (records_of t)
+  pub stream_types_are : map (λ s. s.ty) (streams_of t) ≡ stream_types (records_of t)
+  stream_types_are = stream_types_by (streams_of t) ∙ ap stream_types a.sorts.kinds.streams_are ∙ stream_types_of_kind (records_of t)
 
   -- ---- what a tick reads of its rings and its order
-  pub serves_its_references : Serves (records_of t) (plan_of t)
-  serves_its_references = serves (records_of t) (orderly (records_of t) a.in_order) (plan_of t) a.planned
+  pub served : Serves (records_of t) (plan_of t)
+  served = serves (records_of t) (orderly (records_of t) a.in_order) (plan_of t) a.planned
 
   module _ (n : ℕ) where
     pub ring_of_channel : (c : Channel) → n < length (channels_of t) → (get_or (channels_of t) n c).ring ≡ ring_of (plan_of t) (channel n)

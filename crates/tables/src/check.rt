@@ -36,7 +36,7 @@ fn accept(alloc: Global, bytes: &[u8], sheet: &mut [SheetEntry]) -> Result<Table
 }
 
 impl Table {
-    // The first table, of the byte 01 alone.
+    /// The first table, of the byte 01 alone; it errs for want of memory.
     pub fn new(alloc: Global) -> Result<Table, AllocError>
         ensures { IfOk result First }
     {
@@ -50,7 +50,9 @@ impl Table {
         Ok(Table { bytes, content })
     }
 
-    // Checks the bytes of a table and puts it in this one's place; or says why not, with a walk to blame in the sheet's first entries.
+    /// Checks the bytes of a table and puts it in this one's place.
+    ///
+    /// It errs where the bytes are refused, with a walk to blame in the sheet's first entries, and for want of memory; this table is then as it was.
     pub fn check(
         &mut self,
         alloc: Global,
