@@ -13,7 +13,8 @@ use values::value::Value;
 impl<'a> Reader<'a> {
     /// A reader of its own at the same place, with which to read ahead.
     pub fn fork(&self) -> Reader<'a>
-        ensures { (result.bytes.now ≡ self.now.bytes.now) × (result.at ≡ self.now.at) }
+        ensures bytes { result.bytes.now ≡ self.now.bytes.now }
+        ensures at { result.at ≡ self.now.at }
     {
         Reader {
             bytes: self.bytes,

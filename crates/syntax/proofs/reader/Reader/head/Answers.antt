@@ -44,7 +44,7 @@ returns-in_err-read_value-in-Constant-clause-value c =
     let type = c.in_ok-ty-in-Constant.ensures in
     let p = err_from_is_err_and c.from_residual-in_err-read_value-in-Constant.result c.from_residual-in_err-read_value-in-Constant.ensures.1 in
     rw (p.1, p.2)
-    (refl, constant _ _ _ _ c.args.self.now.at _ c.args.depth _ _ _ _ _ fork.0 fork.1 code.0 type.0 code.1 op c.if-depth-eq0.false type.1 c.in_err-read_value-in-Constant.ensures.1)
+    (refl, constant _ _ _ _ c.args.self.now.at _ c.args.depth _ _ _ _ _ fork.bytes fork.at code.0 type.0 code.1 op c.if-depth-eq0.false type.1 c.in_err-read_value-in-Constant.ensures.1)
 
 pub returns-clause-value : goal.returns-clause-value
 unfolding head
@@ -56,7 +56,7 @@ returns-clause-value c =
           let code = c.in_ok-byte.ensures in
           let type = w.in_ok-ty-in-Constant.ensures in
           let value = w.in_ok-read_value-in-Constant.ensures in
-          let found = constant _ _ _ _ c.args.self.now.at _ c.args.depth _ _ _ _ _ fork.0 fork.1 code.0 type.0 code.1 op c.if-depth-eq0.false type.1 value.1 in
+          let found = constant _ _ _ _ c.args.self.now.at _ c.args.depth _ _ _ _ _ fork.bytes fork.at code.0 type.0 code.1 op c.if-depth-eq0.false type.1 value.1 in
           (refl, found ∙ (λ i. Ok (sym w.node-is i, ap (λ a. a.at) (sym w.ahead-is) i)))
       | in-Channel+in_ok-byte-in-Channel w ↦ search rules
       | in-Stream+in_ok-number-in-Stream+in_ok-drop-in-Stream+else-drop-gt-MOST_DROP w ↦
@@ -65,7 +65,7 @@ returns-clause-value c =
           let code = c.in_ok-byte.ensures in
           let number = w.in_ok-number-in-Stream.ensures in
           let drop = w.in_ok-drop-in-Stream.ensures in
-          let found = stream _ _ _ _ c.args.self.now.at _ c.args.depth _ _ _ _ _ _ fork.0 fork.1 code.0 number.0 code.1 op c.if-depth-eq0.false number.1 drop.1 w.if-drop-gt-MOST_DROP.false in
+          let found = stream _ _ _ _ c.args.self.now.at _ c.args.depth _ _ _ _ _ _ fork.bytes fork.at code.0 number.0 code.1 op c.if-depth-eq0.false number.1 drop.1 w.if-drop-gt-MOST_DROP.false in
           (refl, found ∙ (λ i. Ok (sym w.node-is i, ap (λ a. a.at) (sym w.ahead-is) i)))
       | in-Unary w ↦ grind (arith, nat_tests)
       | in-Cast+in_ok-read_type-in-Cast w ↦ search rules
