@@ -1,21 +1,22 @@
 -- What follows from what is known of a table. Assumes nothing.
-use Rattle.std.proofs.Common.{◌≡◌, ℕ, ◌+◌, ◌<◌, ◌≤◌, List, [], ◌∷◌, ◌++◌, length, map, get_or, Ok, refl, sym, ap, ◌∙◌, arith}
-use Rattle.std.proofs.lemmas.List.{length-map, get_or_default, get_or-map, get_or_append_left, get_or-append-add}
+use Rattle.std.proofs.Common.{◌≡◌, ℕ, ◌+◌, ◌<◌, ◌≤◌, List, [], ◌∷◌, length, map, get_or, Ok, refl, sym, ap, ◌∙◌, subst, arith}
+use Rattle.std.proofs.Math.Logic.{∥∥₁_elim}
+use Rattle.std.specs.Coded.{le_prop}
+use Rattle.std.proofs.lemmas.List.{length-map, get_or-map, get_or_append_left, get_or-append-add}
 use Rattle.syntax.specs.declared.record.Kind.TheVariants as kind
 use Rattle.syntax.specs.Entries.{Entry, count}
 use Rattle.syntax.specs.Entries as entry
-use Rattle.values.specs.declared.types.«Type».{«Type» as Ty}
 use Rattle.typing.specs.Judging.{types_in}
 use Rattle.typing.specs.Scopes.{channel_types, stream_types}
 use Rattle.schedule.specs.Graphs.{channel, stream}
-use Rattle.schedule.specs.Plans.{ring_in, ring_of, no_ring}
+use Rattle.schedule.specs.Plans.{ring_count, ring_in, ring_of, no_ring}
 use Rattle.schedule.specs.Serving.{Serves}
 use Rattle.schedule.proofs.Standing.{orderly}
 use Rattle.schedule.proofs.Serving.{serves}
 use Rattle.tables.specs.declared.content.Channel.{Channel}
 use Rattle.tables.specs.declared.content.Stream.{Stream}
 use Rattle.tables.specs.declared.table.Table.{Table}
-use Rattle.tables.specs.Contents.{of_kind, channel_entry, stream_entry, rule_entry, channel_rings, stream_rings}
+use Rattle.tables.specs.Contents.{Lies, of_kind, channel_entry, stream_entry, rule_entry, channel_rings, stream_rings}
 use Rattle.tables.specs.Tables.{bytes_of, records_of, channels_of, streams_of, rules_of, plan_of, IsAccepted}
 use Rattle.tables.proofs.Passing.{passes}
 use Rattle.tables.proofs.Sorting.{length_of_kind}
@@ -77,3 +78,21 @@ module _ (t : Table) (a : IsAccepted t) where
         sym (get_or-map (λ (x : Stream). x.ring) (streams_of t) n s no_ring inside)
         ∙ sym (get_or-append-add rings (stream_rings (streams_of t)) n no_ring)
         ∙ ap (λ i. ring_in (plan_of t) (i + n)) first
+
+-- ---- of any table, with nothing asked: its rings have slots, lie within the plan's, and the plan's are few
+module _ (t : Table) where
+  pub few_slots : (plan_of t).counts.slots ≤ 2048
+  few_slots = ∥∥₁_elim t.accepted (hlevel le_prop) (λ a. a.small)
+
+  pub channel_lies : (n : ℕ) (c : Channel) → n < length (channels_of t) → Lies (plan_of t).counts.slots (get_or (channels_of t) n c).ring
+  channel_lies n c inside = ∥∥₁_elim t.accepted (hlevel le_prop) (λ a.
+      let s = served t a in
+      let q : n < ring_count (records_of t) = omega (arith, channel_count t a) in
+      subst (Lies (plan_of t).counts.slots) (sym (ring_of_channel t a n c inside)) (s.some n q, s.within n q))
+
+  pub stream_lies : (n : ℕ) (x : Stream) → n < length (streams_of t) → Lies (plan_of t).counts.slots (get_or (streams_of t) n x).ring
+  stream_lies n x inside = ∥∥₁_elim t.accepted (hlevel le_prop) (λ a.
+      let s = served t a in
+      let m = (plan_of t).counts.records.channels in
+      let q : m + n < ring_count (records_of t) = omega (arith, stream_count t a, ap (λ c. c.records.channels) a.planned.counts) in
+      subst (Lies (plan_of t).counts.slots) (sym (ring_of_stream t a n x inside)) (s.some (m + n) q, s.within (m + n) q))

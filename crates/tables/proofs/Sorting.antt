@@ -1,5 +1,5 @@
 -- One more record among records by kind, and all of them. Assumes nothing.
-use Rattle.std.proofs.Common.{◌≡◌, ℕ, ◌+◌, ◌<◌, ◌≤◌, max, cond, Bool, true, false, Some, None, Option, List, [], ◌∷◌, ◌++◌, length, map, take, drop, get_or, fold, refl, sym, ap, ◌∙◌, subst, arith, ◌==◌}
+use Rattle.std.proofs.Common.{◌≡◌, ℕ, ◌+◌, ◌<◌, max, cond, Bool, true, false, Some, None, Option, List, [], ◌∷◌, ◌++◌, length, map, take, drop, get_or, fold, refl, sym, ap, ◌∙◌, subst, arith, ◌==◌}
 use Rattle.std.specs.declared.alloc.Global.{Global}
 use Rattle.std.specs.declared.vec.IntoIter.{IntoIter}
 use Rattle.std.specs.Iterator.{Yields}
@@ -7,7 +7,7 @@ use Rattle.std.specs.Vec.Iter.{into_iter_items, into_iter_len, into_iter_steps}
 use Rattle.std.proofs.iter.Next.{Yields-more}
 use Rattle.std.proofs.lemmas.Iterator.Adapters.{YieldsList-from_vec}
 use Rattle.std.proofs.lemmas.Iterator.Consumers.{YieldsList-so_far, YieldsList-end}
-use Rattle.std.proofs.lemmas.List.{map-id, map-append, append-nil, length-map, length-append, length-take-le, length-drop, take_more, take_all, take-append-drop, get_or-drop}
+use Rattle.std.proofs.lemmas.List.{map-id, map-append, append-nil, length-map, length-append, length-drop, take_more, take_all, take-append-drop, get_or-drop}
 use Rattle.std.proofs.lemmas.List.Elements.{filter-append}
 use Rattle.std.proofs.lemmas.List.Sums.{fold-append}
 use Rattle.values.specs.declared.types.«Type».{«Type» as Ty}
@@ -23,8 +23,7 @@ use Rattle.schedule.specs.declared.plan.Ring.{Ring}
 use Rattle.schedule.specs.Plans.{Planned, no_ring}
 use Rattle.tables.specs.declared.content.Channel.{Channel}
 use Rattle.tables.specs.declared.content.Stream.{Stream}
-use Rattle.tables.specs.declared.content.Content.{Content}
-use Rattle.tables.specs.Contents.{ByKind, of_kind, channel_entry, stream_entry, rule_entry, channel_rings, stream_rings, greatest_lead_in, plan_in}
+use Rattle.tables.specs.Contents.{ByKind, of_kind, channel_entry, stream_entry, rule_entry, channel_rings, stream_rings, greatest_lead_in}
 
 -- ---- the records of a kind
 one_more : (b : Bool) (r : Entry) (xs : List Entry) → length (cond b (r ∷ xs) xs) ≡ cond b 1 0 + length xs

@@ -1,5 +1,5 @@
 -- What a tick needs of a table, as its records and their plan give it. Assumes nothing.
-use Rattle.std.specs.Prelude.{◌≡◌, ℕ, max, List, ◌++◌, map, fold, vec_items, ◌==◌}
+use Rattle.std.specs.Prelude.{◌≡◌, ℕ, ◌+◌, ◌<◌, ◌≤◌, max, List, ◌++◌, map, fold, vec_items, ◌==◌}
 use Rattle.std.specs.List.{filter}
 use Rattle.syntax.specs.declared.record.Kind.{Kind}
 use Rattle.syntax.specs.declared.record.Kind.TheVariants as kind
@@ -33,6 +33,10 @@ channel_rings cs = map (λ c. c.ring) cs
 
 abbrev pub stream_rings : List Stream → List Ring
 stream_rings ss = map (λ s. s.ring) ss
+
+-- a ring has a slot at least, and lies within so many
+abbrev pub Lies : ℕ → Ring → Type 0
+Lies slots g = (0 < g.length) × (g.base + g.length ≤ slots)
 
 -- the greatest of some numbers, 0 where there are none
 abbrev pub greatest : List ℕ → ℕ

@@ -1,9 +1,7 @@
-use Rattle.std.proofs.Common.{◌≡◌, ◌+◌, ◌++◌, List, length, map, subst, ap, refl, vec_items, arith, rules}
-use Rattle.schedule.specs.declared.plan.Plan.{Plan}
+use Rattle.std.proofs.Common.{List, length, map, subst, ap, refl, vec_items, arith, rules}
 use Rattle.schedule.specs.declared.plan.Ring.{Ring}
 use Rattle.syntax.specs.declared.record.Record.{Record}
 use Rattle.syntax.specs.Entries.{entry_of, entries_of}
-use Rattle.tables.specs.Contents.{stream_entry}
 use Rattle.tables.proofs.Sorting.{Sorted, taken, taken_all, channel_room, stream_room, more_channel, more_stream, rings_are}
 use Rattle.tables.proofs.content.Content.new.Goals as goal
 
