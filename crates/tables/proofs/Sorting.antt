@@ -126,18 +126,6 @@ module _ (xs : List Record) (r : Record) where
       greatest = new ∙ ap (λ n. max n x.ring.lead) s.greatest ∙ sym (ap greatest_lead_in e ∙ ap (fold max 0) (map-append (λ y. y.ring.lead) ss (x ∷ [])) ∙ fold-append max 0 (map (λ y. y.ring.lead) ss) (x.ring.lead ∷ []));
     }
 
-    pub more_rule : (u : Rule) (us' : List Rule) → us' ≡ us ++ u ∷ [] → r ≡ owned.Rule u → Sorted more rings m cs ss us' top
-    more_rule u us' e is = record {
-      kinds = record {
-        channels_are = s.kinds.channels_are ∙ stays kind.Channel (rule_entry u) (ap entry_of is) refl;
-        streams_are = s.kinds.streams_are ∙ stays kind.Stream (rule_entry u) (ap entry_of is) refl;
-        rules_are = pushed rule_entry us us' u (of_kind kind.Rule (map entry_of xs)) e s.kinds.rules_are ∙ goes_on kind.Rule (rule_entry u) (ap entry_of is) refl;
-      };
-      channels_lie = s.channels_lie;
-      streams_lie = s.streams_lie;
-      greatest = s.greatest;
-    }
-
 -- ---- and of all records: the rings are all the plan's
 module _ (rs : List Entry) (p : Plan) (k : Planned rs p) (cs : List Channel) (ss : List Stream) (us : List Rule) (top : ℕ) (s : Sorted rs p.rings.items p.counts.records.channels cs ss us top) where
   channels_long : length cs ≡ p.counts.records.channels
