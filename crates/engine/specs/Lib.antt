@@ -1,3 +1,4 @@
 pub mod Rings
 pub mod Known
 pub mod Rules
+pub mod Laws

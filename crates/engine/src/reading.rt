@@ -52,7 +52,10 @@ pub fn newest(table: &Table, rings: &[u64], ticks: u32, stream: usize) -> Option
 {
     let stream = &table.streams()[stream];
     let end = u64::from(ticks) + u64::from(stream.ring.lead);
-    let index = end.checked_sub(1)?;
+    if end == 0 {
+        return None;
+    }
+    let index = end - 1;
     let slot = slot(&stream.ring, index as usize);
     Some((index, stream.ty.from_word(rings[slot])))
 }

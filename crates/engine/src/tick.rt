@@ -57,8 +57,8 @@ pub fn store_samples(table: &Table, rings: &mut [u64], tick: u32, row: &[Value; 
     requires { HasRoom table.now rings.old }
     ensures { StoresSamples (rings_of table.now) tick (value_at row.now) rings.old rings.new }
 {
-    for (channel, value) in table.channels().iter().zip(row) {
-        rings[slot(&channel.ring, tick as usize)] = value.word();
+    for (number, channel) in table.channels().iter().enumerate() {
+        rings[slot(&channel.ring, tick as usize)] = row[number].word();
     }
 }
 
