@@ -1,0 +1,4 @@
+use Rattle.monitor.proofs.stand_in.newest.Goals as goal
+
+pub returns : goal.returns
+returns = ?

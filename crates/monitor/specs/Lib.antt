@@ -1,0 +1,4 @@
+pub mod States
+pub mod Samples
+pub mod Delivering
+pub mod Refusals

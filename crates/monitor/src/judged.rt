@@ -1,0 +1,61 @@
+// A monitor with a tick judged: it delivers and strikes, and closes.
+ghost use Rattle.std.specs.Prelude.{◌≡◌, length, IfOk, IfErr, OnOk, OnErr};
+ghost use Rattle.monitor.specs.States.{counts_of, with_taken, with_struck};
+ghost use Rattle.monitor.specs.Refusals.{refused, stopped, unfit, none_due, still_due, no_place, ◌orelse◌};
+ghost use Rattle.monitor.specs.Delivering.{first_alarm, Delivers};
+
+use crate::counts::AlarmCounts;
+use crate::states::{Judged, Ready, Stopped};
+use alarms::sink::Sink;
+use faults::cause::Cause;
+use faults::fault::{Fault, Layer};
+use tables::table::Table;
+
+impl Judged {
+    /// Offers the first due alarm to a sink, its arguments worked out now.
+    pub fn deliver<K: Sink>(
+        &mut self,
+        table: &Table,
+        rings: &[u64],
+        sink: &mut K,
+    ) -> Result<AlarmCounts, Fault>
+        ensures refusal { refused result ≡ unfit self.old table.now (length rings.now)
+            orelse none_due self.old
+            orelse no_place (K.view sink.old) (first_alarm table.now rings.now self.old)
+                (K.full sink.old (first_alarm table.now rings.now self.old)) }
+        ensures kept { OnErr result (self.new ≡ self.old) }
+        ensures sink { Delivers K.Sink (unfit self.old table.now (length rings.now) orelse none_due self.old)
+            (first_alarm table.now rings.now self.old) sink.old sink.new }
+        ensures state { OnOk result (self.new ≡ with_taken self.old) }
+        ensures counts { IfOk result (λ c. c ≡ counts_of self.new) }
+    {
+        Ok(self.progress.offer_first(table, rings, sink)?)
+    }
+
+    /// Drops the first due alarm.
+    pub fn strike(&mut self) -> Result<AlarmCounts, Fault>
+        ensures refusal { refused result ≡ none_due self.old }
+        ensures kept { OnErr result (self.new ≡ self.old) }
+        ensures state { OnOk result (self.new ≡ with_struck self.old) }
+        ensures counts { IfOk result (λ c. c ≡ counts_of self.new) }
+    {
+        Ok(self.progress.strike_first()?)
+    }
+
+    /// Makes the monitor ready again, where no alarm is due.
+    pub fn close(self) -> Result<Ready, Stopped<Judged>>
+        ensures refusal { stopped result ≡ still_due self }
+        ensures kept { IfErr result (λ e. e.state ≡ self) }
+        ensures state { IfOk result (λ m. m ≡ self) }
+    {
+        let due = self.progress.due.len();
+        if due > 0 {
+            return Err(Stopped {
+                state: self,
+                fault: Fault::new(Layer::Monitor, Cause::AlarmsDue(due)),
+            });
+        }
+        let Judged { progress } = self;
+        Ok(Ready { progress })
+    }
+}

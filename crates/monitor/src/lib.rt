@@ -1,0 +1,12 @@
+// A monitor of a table: its states, a type each, and the calls of a day.
+#![tactic(auto)]
+
+pub mod counts;
+pub mod judged;
+pub mod progress;
+pub mod ready;
+mod row;
+mod steps;
+pub mod sampled;
+pub mod stand_in;
+pub mod states;

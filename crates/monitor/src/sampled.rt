@@ -1,0 +1,46 @@
+// A monitor with a tick sampled: it judges.
+ghost use Rattle.std.specs.Prelude.{◌≡◌, length, IfOk, IfErr, OnOk};
+ghost use Rattle.rings.specs.Calls.{Judges};
+ghost use Rattle.engine.specs.Rings.{rings_of};
+ghost use Rattle.engine.specs.Rules.{true_rules};
+ghost use Rattle.monitor.specs.States.{counts_of, with_tick};
+ghost use Rattle.monitor.specs.Refusals.{stopped, unfit};
+
+use crate::counts::AlarmCounts;
+use crate::progress::Progress;
+use crate::stand_in::{find_called, judge};
+use crate::states::{Judged, Sampled, Stopped};
+use tables::table::Table;
+
+impl Sampled {
+    /// Judges the sampled tick: the alarms of the rules whose guards are true become due.
+    pub fn judge(
+        self,
+        table: &Table,
+        rings: &mut [u64],
+    ) -> Result<(Judged, AlarmCounts), Stopped<Sampled>>
+        ensures refusal { stopped result ≡ unfit self table.now (length rings.old) }
+        ensures kept { IfErr result (λ e. (e.state ≡ self) × (rings.new ≡ rings.old)) }
+        ensures rings { OnOk result (Judges (rings_of table.now) self.ticks rings.old rings.new) }
+        ensures state { IfOk result (λ r. r.0 ≡ with_tick (true_rules table.now rings.new self.ticks) self) }
+        ensures counts { IfOk result (λ r. r.1 ≡ counts_of r.0) }
+    {
+        if let Err(stop) = self.progress.fit(table, rings) {
+            return Err(Stopped {
+                state: self,
+                fault: stop.fault,
+            });
+        }
+        let Sampled { progress } = self;
+        judge(table, rings, progress.ticks);
+        let progress = Progress {
+            opened: progress.opened,
+            ticks: progress.ticks + 1,
+            due: find_called(table, rings, progress.ticks),
+            taken: progress.taken,
+            struck: progress.struck,
+        };
+        let counts = progress.counts();
+        Ok((Judged { progress }, counts))
+    }
+}
