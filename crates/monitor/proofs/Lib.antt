@@ -1,2 +1,5 @@
 pub mod Known
 pub mod Reading
+pub mod Engine
+pub mod Calling
+pub mod Standing

@@ -1,12 +1,13 @@
--- What happened since a monitor was opened, and what that comes to. Assumes nothing.
-use Rattle.std.specs.Prelude.{◌≡◌, ℕ, List, [], ◌∷◌, ◌++◌, length, map}
-use Rattle.syntax.specs.Entries.{Entry}
-use Rattle.evaluation.specs.Meaning.{Values}
-use Rattle.equations.specs.Equations.{TypedSamples, OneSet}
-use Rattle.equations.specs.Alarms.{Call, called}
-use Rattle.sampling.specs.Rows.{Readings}
+-- What has happened on a day, and what is so of a monitor after it. Assumes nothing.
+use Rattle.std.specs.Prelude.{◌≡◌, ℕ, ◌+◌, List, [], ◌∷◌, ◌++◌, length, map}
 use Rattle.alarms.specs.declared.alarm.Alarm.{Alarm}
 use Rattle.alarms.specs.Arguments.{arguments}
+use Rattle.equations.specs.Equations.{OneSet}
+use Rattle.equations.specs.Alarms.{Call, called}
+use Rattle.sampling.specs.Rows.{Readings}
+use Rattle.tables.specs.declared.table.Table.{Table}
+use Rattle.tables.specs.Tables.{records_of, plan_of}
+use Rattle.monitor.specs.declared.states.Shown.{Shown}
 use Rattle.monitor.specs.Samples.{samples}
 use Rattle.monitor.specs.States.{State}
 
@@ -15,57 +16,64 @@ pub data Fate : Type 0 where
   taken : Alarm → Fate
   struck : Alarm → Fate
 
--- the rows judged, tick by tick, and the alarms settled, in order
+-- a day so far: the rows of the judged ticks, tick by tick, and what became of alarms, in order
 pub record History : Type 0 where
   pub rows : List Readings
   pub settled : List Fate
 
--- as a monitor is opened
-abbrev pub no_history : History
-no_history = record { rows = []; settled = [] }
+-- a day that has just been opened; with another tick judged; with another alarm settled
+abbrev pub opening : History
+opening = record { rows = []; settled = [] }
 
--- and then one row more was judged, or one alarm more settled
 abbrev pub with_row : History → Readings → History
 with_row h row = record h { rows = h.rows ++ (row ∷ []) }
 
 abbrev pub with_fate : History → Fate → History
-with_fate h f = record h { settled = h.settled ++ (f ∷ []) }
+with_fate h fate = record h { settled = h.settled ++ (fate ∷ []) }
 
--- how many ticks were judged
-abbrev pub ticks_of : History → ℕ
-ticks_of h = length h.rows
-
-abbrev pub alarm_of : Fate → Alarm
-alarm_of (taken a) = a
-alarm_of (struck a) = a
-
--- those that were taken, and those that were struck, in order
+-- the alarms that were taken, and those that were struck, in order
 abbrev pub all_taken : List Fate → List Alarm
 all_taken [] = []
-all_taken (taken a ∷ fs) = a ∷ all_taken fs
-all_taken (struck a ∷ fs) = all_taken fs
+all_taken (taken a ∷ fates) = a ∷ all_taken fates
+all_taken (struck a ∷ fates) = all_taken fates
 
 abbrev pub all_struck : List Fate → List Alarm
 all_struck [] = []
-all_struck (taken a ∷ fs) = all_struck fs
-all_struck (struck a ∷ fs) = a ∷ all_struck fs
+all_struck (taken a ∷ fates) = all_struck fates
+all_struck (struck a ∷ fates) = a ∷ all_struck fates
 
--- an alarm as a set of values calls it, with the list of its arguments
+-- an alarm as a table's rules call it
 abbrev pub call_of : Alarm → Call
 call_of a = record { tick = a.tick; rule = a.rule; arguments = arguments a.arguments }
 
--- by a set of values, the alarms called are those settled, each once and in order, and then those due
-abbrev pub AreDue : List Entry → History → Values → List Call → Type 0
-AreDue rs h v due = called rs (samples h.rows) v (ticks_of h) ≡ map (λ f. call_of (alarm_of f)) h.settled ++ due
+-- those that were settled, in order
+abbrev pub settled_call : Fate → Call
+settled_call (taken a) = call_of a
+settled_call (struck a) = call_of a
 
--- what a history comes to, where a monitor shows this state: exactly one set of values meets the equations on the samples of the judged ticks;
--- by it, the alarms called are those settled and then those due, which are of the rules that the state has; and the state counts ticks and alarms
-pub record ComesTo (rs : List Entry) (h : History) (m : State) : Type 0 where
-  pub typed : TypedSamples rs (samples h.rows) (ticks_of h)
-  pub set : OneSet rs (samples h.rows) (ticks_of h)
+abbrev pub settled_calls : History → List Call
+settled_calls h = map settled_call h.settled
+
+-- after a day so far: exactly one set of values meets the table's equations on the judged rows; by it, the alarms called are those settled, each once and in order, and then those due; and the monitor has the day's counts and the due alarms' rules
+pub record Tells (t : Table) (h : History) (m : State) : Type 0 where
+  pub set : OneSet (records_of t) (samples h.rows) (length h.rows)
   pub due : List Call
-  pub alarms : AreDue rs h set.values due
-  pub rules : map (λ (c : Call). c.rule) due ≡ m.due
-  pub ticks : m.ticks ≡ ticks_of h
+  pub alarms : called (records_of t) (samples h.rows) set.values (length h.rows) ≡ settled_calls h ++ due
+  pub opened : m.opened ≡ (plan_of t).counts
+  pub ticks : m.ticks ≡ length h.rows
+  pub rules : m.due ≡ map (λ (c : Call). c.rule) due
   pub taken : m.taken ≡ length (all_taken h.settled)
   pub struck : m.struck ≡ length (all_struck h.settled)
+  pub sum : length (called (records_of t) (samples h.rows) set.values (length h.rows)) ≡ m.taken + m.struck + length m.due
+
+-- the alarm is the first that is due
+pub record IsFirstDue (t : Table) (h : History) (m : State) (a : Alarm) : Type 0 where
+  pub told : Tells t h m
+  pub rest : List Call
+  pub first : told.due ≡ call_of a ∷ rest
+
+-- what is shown of a stream: its newest index, its lead past the last judged tick, and the set's value there
+pub record Shows (t : Table) (h : History) (m : State) (s : ℕ) (shown : Shown) : Type 0 where
+  pub told : Tells t h m
+  pub index : shown.index + 1 ≡ length h.rows + told.set.lead s
+  pub value : shown.value ≡ told.set.values s shown.index

@@ -2,3 +2,5 @@ pub mod States
 pub mod Samples
 pub mod Delivering
 pub mod Refusals
+pub mod Histories
+pub mod Standing

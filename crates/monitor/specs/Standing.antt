@@ -1,25 +1,47 @@
--- How a monitor and its rings stand after what happened. Assumes nothing.
-use Rattle.std.specs.Prelude.{◌≡◌, ℕ, ◌+◌, List}
-use Rattle.sampling.specs.Rows.{Readings}
+-- How a monitor and its memory stand after a day so far. Assumes nothing.
+use Rattle.std.specs.Prelude.{◌≡◌, ℕ, ◌+◌, ◌-◌, List, [], ◌∷◌, ◌++◌, length, map}
+use Rattle.equations.specs.Equations.{TypedSamples, Meets}
+use Rattle.equations.specs.Alarms.{Call, called}
+use Rattle.evaluation.specs.Meaning.{Values}
 use Rattle.rings.specs.Memory.{HoldsValues}
+use Rattle.sampling.specs.Rows.{Readings}
 use Rattle.tables.specs.declared.table.Table.{Table}
 use Rattle.tables.specs.Tables.{records_of, plan_of}
-use Rattle.engine.specs.Rings.{rings_of, HasRoom}
+use Rattle.engine.specs.Rings.{rings_of, lead_of}
+use Rattle.engine.specs.Rules.{arguments_in}
+use Rattle.monitor.specs.Histories.{History, all_taken, all_struck, settled_calls, Tells}
 use Rattle.monitor.specs.Samples.{samples, TypedRow}
 use Rattle.monitor.specs.States.{State}
-use Rattle.monitor.specs.Histories.{History, ComesTo, ticks_of, with_row}
 
--- a monitor, ready or judged, was opened on this table, and its rings hold the values of the judged ticks
+-- what a rule calls at a tick, by what the memory holds
+abbrev pub call_in : Table → List ℕ → ℕ → ℕ → Call
+call_in t mem tick rule = record { tick = tick; rule = rule; arguments = arguments_in t mem tick rule }
+
+-- the alarms that are due, by what the memory holds
+abbrev pub due_in : Table → List ℕ → State → List Call
+due_in t mem m = map (call_in t mem (m.ticks - 1)) m.due
+
+-- the monitor has the day's counts, and by every set of values that meets the equations the alarms called are those settled and then these
+pub record Keeps (t : Table) (h : History) (m : State) (due : List Call) : Type 0 where
+  pub opened : m.opened ≡ (plan_of t).counts
+  pub ticks : m.ticks ≡ length h.rows
+  pub typed : TypedSamples (records_of t) (samples h.rows) (length h.rows)
+  pub alarms : (v : Values) → Meets (records_of t) (lead_of t) (samples h.rows) (length h.rows) v →
+      called (records_of t) (samples h.rows) v (length h.rows) ≡ settled_calls h ++ due
+  pub taken : m.taken ≡ length (all_taken h.settled)
+  pub struck : m.struck ≡ length (all_struck h.settled)
+
+-- a monitor, ready or judged, and its memory after a day so far
 pub record Stands (t : Table) (h : History) (m : State) (mem : List ℕ) : Type 0 where
-  pub opened : m.opened ≡ (plan_of t).counts
-  pub room : HasRoom t mem
-  pub comes : ComesTo (records_of t) h m
-  pub holds : HoldsValues (rings_of t) (samples h.rows) (ticks_of h) (ticks_of h) mem
+  pub keeps : Keeps t h m (due_in t mem m)
+  pub holds : HoldsValues (rings_of t) (samples h.rows) (length h.rows) (length h.rows) mem
 
--- the same where a row more was sampled, and is not judged yet
+-- a monitor for which a row has been sampled, and its memory, after a day so far
 pub record Pends (t : Table) (h : History) (row : Readings) (m : State) (mem : List ℕ) : Type 0 where
-  pub opened : m.opened ≡ (plan_of t).counts
-  pub room : HasRoom t mem
-  pub comes : ComesTo (records_of t) h m
-  pub typed : TypedRow (records_of t) row
-  pub holds : HoldsValues (rings_of t) (samples (with_row h row).rows) (ticks_of h + 1) (ticks_of h) mem
+  pub keeps : Keeps t h m []
+  pub row_typed : TypedRow (records_of t) row
+  pub holds : HoldsValues (rings_of t) (samples (h.rows ++ (row ∷ []))) (length h.rows + 1) (length h.rows) mem
+
+-- after a call: how they stand, and what follows
+abbrev pub GoesOn : Table → History → State → List ℕ → Type 0
+GoesOn t h m mem = Stands t h m mem × Tells t h m

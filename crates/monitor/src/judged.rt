@@ -1,8 +1,12 @@
 // A monitor with a tick judged: it delivers and strikes, and closes.
-ghost use Rattle.std.specs.Prelude.{◌≡◌, length, IfOk, IfErr, OnOk, OnErr};
+ghost use Rattle.std.specs.Prelude.{◌≡◌, ℕ, List, length, IfOk, IfErr, OnOk, OnErr};
 ghost use Rattle.monitor.specs.States.{counts_of, with_taken, with_struck};
 ghost use Rattle.monitor.specs.Refusals.{refused, stopped, unfit, none_due, still_due, no_place, ◌orelse◌};
 ghost use Rattle.monitor.specs.Delivering.{first_alarm, Delivers};
+ghost use Rattle.monitor.specs.Histories.{History, taken, struck, with_fate, IsFirstDue};
+ghost use Rattle.monitor.specs.Standing.{Stands, GoesOn};
+ghost use Rattle.alarms.specs.declared.alarm.Alarm.{Alarm};
+ghost use Rattle.tables.specs.declared.table.Table.{Table};
 
 use crate::counts::AlarmCounts;
 use crate::states::{Judged, Ready, Stopped};
@@ -28,6 +32,9 @@ impl Judged {
             (first_alarm table.now rings.now self.old) sink.old sink.new }
         ensures state { OnOk result (self.new ≡ with_taken self.old) }
         ensures counts { IfOk result (λ c. c ≡ counts_of self.new) }
+        ensures day { OnOk result ((h : History) → Stands table.now h self.old rings.now →
+            let a = first_alarm table.now rings.now self.old in
+            IsFirstDue table.now h self.old a × GoesOn table.now (with_fate h (taken a)) self.new rings.now) }
     {
         Ok(self.progress.offer_first(table, rings, sink)?)
     }
@@ -38,6 +45,8 @@ impl Judged {
         ensures kept { OnErr result (self.new ≡ self.old) }
         ensures state { OnOk result (self.new ≡ with_struck self.old) }
         ensures counts { IfOk result (λ c. c ≡ counts_of self.new) }
+        ensures day { OnOk result ((t : Table) (h : History) (mem : List ℕ) → Stands t h self.old mem →
+            (a : Alarm) × IsFirstDue t h self.old a × GoesOn t (with_fate h (struck a)) self.new mem) }
     {
         Ok(self.progress.strike_first()?)
     }
@@ -47,6 +56,7 @@ impl Judged {
         ensures refusal { stopped result ≡ still_due self }
         ensures kept { IfErr result (λ e. e.state ≡ self) }
         ensures state { IfOk result (λ m. m ≡ self) }
+        ensures day { IfOk result (λ m. (t : Table) (h : History) (mem : List ℕ) → Stands t h self mem → Stands t h m mem) }
     {
         let due = self.progress.due.len();
         if due > 0 {

@@ -1,13 +1,16 @@
 // A monitor between two ticks: it opens, samples and shows.
-ghost use Rattle.std.specs.Prelude.{◌≡◌, ◌+◌, length, IfOk, IfErr, OnOk, OnErr};
+ghost use Rattle.std.specs.Prelude.{◌≡◌, ◌+◌, ◌<◌, ℕ, Some, length, IfOk, IfErr, OnOk, OnErr};
 ghost use Rattle.rings.specs.Calls.{OpensRings, StoresSamples};
 ghost use Rattle.rings.specs.Memory.{values_in};
 ghost use Rattle.sampling.specs.Meanings.{row_after};
-ghost use Rattle.tables.specs.Tables.{plan_of};
+ghost use Rattle.sampling.specs.Rows.{Readings};
+ghost use Rattle.tables.specs.Tables.{plan_of, streams_of};
 ghost use Rattle.engine.specs.Rings.{rings_of, lead_of};
 ghost use Rattle.monitor.specs.States.{state_of, opened_on};
 ghost use Rattle.monitor.specs.Refusals.{refused, stopped, stopped_by, no_room, unfit, spent, unsampled, no_stream, no_value, ◌orelse◌};
 ghost use Rattle.monitor.specs.Samples.{filled, Polls};
+ghost use Rattle.monitor.specs.Histories.{History, opening, Shows};
+ghost use Rattle.monitor.specs.Standing.{Stands, Pends, GoesOn};
 
 use crate::progress::Progress;
 use crate::row::MonitorFault;
@@ -26,6 +29,7 @@ impl Ready {
         ensures kept { OnErr result (rings.new ≡ rings.old) }
         ensures state { IfOk result (λ m. m ≡ opened_on (plan_of table.now).counts) }
         ensures rings { OnOk result (OpensRings (rings_of table.now) rings.old rings.new) }
+        ensures day { IfOk result (λ m. GoesOn table.now opening m rings.new) }
     {
         let opened = table.counts();
         if rings.len() < opened.slots {
@@ -59,6 +63,8 @@ impl Ready {
         ensures state { IfOk result (λ m. m ≡ self) }
         ensures rings { OnOk result (StoresSamples (rings_of table.now) self.ticks
             (filled (row_after (S.meaning sampler.old))) rings.old rings.new) }
+        ensures day { IfOk result (λ m. (h : History) → Stands table.now h self rings.old →
+            (row : Readings) × ((S.meaning sampler.old).next ≡ Some row) × Pends table.now h row m rings.new) }
     {
         match self.progress.take_samples(table, rings, sampler) {
             Ok(row) => {
@@ -80,6 +86,7 @@ impl Ready {
             orelse no_value table.now self.now.ticks stream }
         ensures shown { IfOk result (λ r. (r.index + 1 ≡ self.now.ticks + lead_of table.now stream)
             × (r.value ≡ values_in (rings_of table.now) rings.now stream r.index)) }
+        ensures known { OnOk result (stream < length (streams_of table.now)) }
     {
         self.progress.fit(table, rings)?;
         if usize::from(stream) >= table.streams().len() {
@@ -98,6 +105,8 @@ impl Ready {
             orelse no_value table.now self.now.ticks stream }
         ensures shown { IfOk result (λ r. (r.index + 1 ≡ self.now.ticks + lead_of table.now stream)
             × (r.value ≡ values_in (rings_of table.now) rings.now stream r.index)) }
+        ensures day { IfOk result (λ r. (h : History) → Stands table.now h self.now rings.now →
+            Shows table.now h self.now stream r) }
     {
         Ok(self.find_newest(table, rings, stream)?)
     }

@@ -1,10 +1,13 @@
 // A monitor with a tick sampled: it judges.
 ghost use Rattle.std.specs.Prelude.{◌≡◌, length, IfOk, IfErr, OnOk};
 ghost use Rattle.rings.specs.Calls.{Judges};
+ghost use Rattle.sampling.specs.Rows.{Readings};
 ghost use Rattle.engine.specs.Rings.{rings_of};
 ghost use Rattle.engine.specs.Rules.{true_rules};
 ghost use Rattle.monitor.specs.States.{counts_of, with_tick};
 ghost use Rattle.monitor.specs.Refusals.{stopped, unfit};
+ghost use Rattle.monitor.specs.Histories.{History, with_row};
+ghost use Rattle.monitor.specs.Standing.{Pends, GoesOn};
 
 use crate::counts::AlarmCounts;
 use crate::progress::Progress;
@@ -24,6 +27,8 @@ impl Sampled {
         ensures rings { OnOk result (Judges (rings_of table.now) self.ticks rings.old rings.new) }
         ensures state { IfOk result (λ r. r.0 ≡ with_tick (true_rules table.now rings.new self.ticks) self) }
         ensures counts { IfOk result (λ r. r.1 ≡ counts_of r.0) }
+        ensures day { IfOk result (λ r. (h : History) (row : Readings) → Pends table.now h row self rings.old →
+            GoesOn table.now (with_row h row) r.0 rings.new) }
     {
         if let Err(stop) = self.progress.fit(table, rings) {
             return Err(Stopped {

@@ -87,6 +87,7 @@ impl Progress {
         ensures answer { stopped_by result ≡ none_due (state_of self.now) }
         ensures rule { IfOk result (λ r. r ≡ first_due (state_of self.now)) }
         ensures known { IfOk result (λ r. r < self.now.opened.records.rules) }
+        ensures some { OnOk result (0 < length self.now.due.items) }
     {
         let first = self.due.first().copied();
         first.ok_or(MonitorFault::new(Layer::Monitor, Cause::NoneDue))
@@ -106,6 +107,7 @@ impl Progress {
         ensures sink { Delivers K.Sink
             (unfit (state_of self.old) table.now (length rings.now) orelse none_due (state_of self.old))
             (first_alarm table.now rings.now (state_of self.old)) sink.old sink.new }
+        ensures some { OnOk result (0 < length self.old.due.items) }
         ensures went { OnOk result (state_of self.new ≡ with_taken (state_of self.old)) }
         ensures kept { OnErr result (self.new ≡ self.old) }
         ensures counts { IfOk result (λ c. c ≡ counts_of (state_of self.new)) }
@@ -123,6 +125,7 @@ impl Progress {
     // Drops the first due alarm.
     pub(crate) fn strike_first(&mut self) -> Result<AlarmCounts, MonitorFault>
         ensures answer { stopped_by result ≡ none_due (state_of self.old) }
+        ensures some { OnOk result (0 < length self.old.due.items) }
         ensures went { OnOk result (state_of self.new ≡ with_struck (state_of self.old)) }
         ensures kept { OnErr result (self.new ≡ self.old) }
         ensures counts { IfOk result (λ c. c ≡ counts_of (state_of self.new)) }
