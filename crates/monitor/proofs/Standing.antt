@@ -21,16 +21,16 @@ use Rattle.engine.specs.Rings.{rings_of, lead_of}
 use Rattle.engine.specs.Rules.{true_rules, called_in}
 use Rattle.monitor.specs.declared.states.Shown.{Shown}
 use Rattle.monitor.specs.States.{State, opened_on, with_tick, with_taken, with_struck}
-use Rattle.monitor.specs.Samples.{samples, filled, TypedRow}
+use Rattle.monitor.specs.Samples.{samples, row_value, TypedRow}
 use Rattle.monitor.specs.Delivering.{first_alarm, first_due}
-use Rattle.monitor.specs.Histories.{Fate, History, opening, with_row, with_fate, taken, struck, all_taken, all_struck, call_of, settled_call, settled_calls, Tells, IsFirstDue, Shows}
-use Rattle.monitor.specs.Standing.{call_in, due_in, Keeps, Stands, Pends, GoesOn}
+use Rattle.monitor.specs.Histories.{Fate, History, new_day, with_row, with_fate, taken, struck, all_taken, all_struck, call_of, settled_call, settled_calls, Follows, IsFirstDue, Shows}
+use Rattle.monitor.specs.Standing.{call_in, due_in, Matches, StandsAfter, PendsAfter, GoesOn}
 use Rattle.monitor.proofs.Known.{streams_counted}
 use Rattle.monitor.proofs.Engine.{lawful_of, leads_of, past_of, one_set_of}
 use Rattle.monitor.proofs.Calling.{call_of_alarm, called_by_rules}
 
 -- ---- opening
-pub stands_opened : (t : Table) (old new : List ℕ) → OpensRings (rings_of t) old new → Stands t opening (opened_on (plan_of t).counts) new
+pub stands_opened : (t : Table) (old new : List ℕ) → OpensRings (rings_of t) old new → StandsAfter t new_day (opened_on (plan_of t).counts) new
 stands_opened t old new opens = record {
   keeps = record { opened = refl; ticks = refl; typed = λ n c before. absurd (omega (arith, before)); alarms = λ v meets. refl; taken = refl; struck = refl };
   holds = opens.held (samples []);
@@ -42,7 +42,7 @@ fates_counted [] = refl
 fates_counted (taken a ∷ fates) = let rest = fates_counted fates in omega (arith, rest)
 fates_counted (struck a ∷ fates) = let rest = fates_counted fates in omega (arith, rest)
 
-module _ (t : Table) (h : History) (m : State) (due : List Call) (rules : m.due ≡ map (λ (c : Call). c.rule) due) (k : Keeps t h m due) where
+module _ (t : Table) (h : History) (m : State) (due : List Call) (rules : m.due ≡ map (λ (c : Call). c.rule) due) (k : Matches t h m due) where
   abbrev x : Samples
   x = samples h.rows
 
@@ -52,8 +52,8 @@ module _ (t : Table) (h : History) (m : State) (due : List Call) (rules : m.due 
   pub meets_set : (s : OneSet (records_of t) x n) → s.lead ≡ lead_of t → Meets (records_of t) (lead_of t) x n s.values
   meets_set s same = subst (λ lead. Meets (records_of t) lead x n s.values) same s.meets
 
-  abbrev pub tells : Tells t h m
-  tells =
+  abbrev pub follows : Follows t h m
+  follows =
       let one = one_set_of t x n k.typed in
       let alarms = k.alarms one.0.values (meets_set one.0 one.1) in
       record {
@@ -80,11 +80,11 @@ pub rules_in : (t : Table) (mem : List ℕ) (tick : ℕ) (rules : List ℕ) → 
 rules_in t mem tick [] = refl
 rules_in t mem tick (k ∷ ks) = ap (λ l. k ∷ l) (rules_in t mem tick ks)
 
-abbrev pub stands_tells : (t : Table) (h : History) (m : State) (mem : List ℕ) → Stands t h m mem → Tells t h m
-stands_tells t h m mem s = tells t h m (due_in t mem m) (rules_in t mem (m.ticks - 1) m.due) s.keeps
+abbrev pub stands_follows : (t : Table) (h : History) (m : State) (mem : List ℕ) → StandsAfter t h m mem → Follows t h m
+stands_follows t h m mem s = follows t h m (due_in t mem m) (rules_in t mem (m.ticks - 1) m.due) s.keeps
 
-pub goes_on : (t : Table) (h : History) (m m' : State) (mem : List ℕ) → m' ≡ m → Stands t h m mem → GoesOn t h m' mem
-goes_on t h m m' mem same s = subst (λ (n : State). GoesOn t h n mem) (sym same) (s, stands_tells t h m mem s)
+pub goes_on : (t : Table) (h : History) (m m' : State) (mem : List ℕ) → m' ≡ m → StandsAfter t h m mem → GoesOn t h m' mem
+goes_on t h m m' mem same s = subst (λ (n : State). GoesOn t h n mem) (sym same) (s, stands_follows t h m mem s)
 
 -- ---- a row more
 last_row : (rows : List Readings) (row : Readings) → slice_index_or (rows ++ (row ∷ [])) (length rows) nothing ≡ row
@@ -96,10 +96,10 @@ module _ (rows : List Readings) (row : Readings) where
   more = rows ++ (row ∷ [])
 
   same_before : (t c : ℕ) → t < length rows → samples more t c ≡ samples rows t c
-  same_before t c before = ap (λ (r : Readings). filled r c) (get_or_append_left rows (row ∷ []) nothing t before)
+  same_before t c before = ap (λ (r : Readings). row_value r c) (get_or_append_left rows (row ∷ []) nothing t before)
 
-  newest_is : (c : ℕ) → samples more (length rows) c ≡ filled row c
-  newest_is c = ap (λ (r : Readings). filled r c) (last_row rows row)
+  newest_is : (c : ℕ) → samples more (length rows) c ≡ row_value row c
+  newest_is c = ap (λ (r : Readings). row_value r c) (last_row rows row)
 
   longer : length more ≡ length rows + 1
   longer = let e = length-append rows (row ∷ []) in omega (arith, e)
@@ -108,8 +108,8 @@ module _ (rows : List Readings) (row : Readings) where
     same_rows : SameSamples (records_of t) (length rows) (samples rows) (samples more)
     same_rows tick c before inside = sym (same_before tick c before)
 
-    row_value : TypedRow (records_of t) row → (c : ℕ) → c < count kind.Channel (records_of t) → HasType (channel_type (records_of t) c) (filled row c)
-    row_value typed c inside =
+    value_typed : TypedRow (records_of t) row → (c : ℕ) → c < count kind.Channel (records_of t) → HasType (channel_type (records_of t) c) (row_value row c)
+    value_typed typed c inside =
         let v = typed c inside in
         subst (λ w. HasType (channel_type (records_of t) c) w) (sym (ap (λ o. unwrap_or o (Bool false)) v.1)) v.2
 
@@ -117,27 +117,27 @@ module _ (rows : List Readings) (row : Readings) where
     typed_more typed typed_row tick c before inside = ⊎_elim
         (λ below. subst (λ w. HasType (channel_type (records_of t) c) w) (sym (same_before tick c below)) (typed tick c below inside))
         (λ past.
-            let now : tick ≡ length rows = omega (arith, before, past) in
-            subst (λ w. HasType (channel_type (records_of t) c) w) (sym (ap (λ i. samples more i c) now ∙ newest_is c)) (row_value typed_row c inside))
+        let now : tick ≡ length rows = omega (arith, before, past) in
+        subst (λ w. HasType (channel_type (records_of t) c) w) (sym (ap (λ i. samples more i c) now ∙ newest_is c)) (value_typed typed_row c inside))
         (cases_lt tick (length rows))
 
 -- ---- a sample
-pub pends : (t : Table) (h : History) (m : State) (row : Readings) (old new : List ℕ) → Stands t h m old → m.due ≡ [] → TypedRow (records_of t) row
-    → StoresSamples (rings_of t) m.ticks (filled row) old new → Pends t h row m new
+pub pends : (t : Table) (h : History) (m : State) (row : Readings) (old new : List ℕ) → StandsAfter t h m old → m.due ≡ [] → TypedRow (records_of t) row
+    → StoresSamples (rings_of t) m.ticks (row_value row) old new → PendsAfter t h row m new
 pends t h m row old new s idle typed stores =
     let n = length h.rows in
     let law = lawful_of t in
     let x = samples (more h.rows row) in
-    let stored = subst (λ tick. StoresSamples (rings_of t) tick (filled row) old new) s.keeps.ticks stores in
+    let stored = subst (λ tick. StoresSamples (rings_of t) tick (row_value row) old new) s.keeps.ticks stores in
     record {
-      keeps = subst (λ due. Keeps t h m (map (call_in t old (m.ticks - 1)) due)) idle s.keeps;
+      keeps = subst (λ due. Matches t h m (map (call_in t old (m.ticks - 1)) due)) idle s.keeps;
       row_typed = typed;
-      holds = law.samples x n (filled row) old new stored (λ c inside. sym (newest_is h.rows row c))
+      holds = law.samples x n (row_value row) old new stored (λ c inside. sym (newest_is h.rows row c))
           (law.past (samples h.rows) x n n old (omega arith) (same_rows h.rows row t) s.holds);
     }
 
 -- ---- a tick judged
-module _ (t : Table) (h : History) (row : Readings) (m : State) (old new : List ℕ) (p : Pends t h row m old) (j : Judges (rings_of t) m.ticks old new) where
+module _ (t : Table) (h : History) (row : Readings) (m : State) (old new : List ℕ) (p : PendsAfter t h row m old) (j : Judges (rings_of t) m.ticks old new) where
   abbrev y : Samples
   y = samples (more h.rows row)
 
@@ -168,7 +168,7 @@ module _ (t : Table) (h : History) (row : Readings) (m : State) (old new : List 
       let one_more : k + 1 ≡ suc k = omega arith in
       ap (called rs y v) one_more ∙ (λ i. before i ++ here i)
 
-  pub stands_judged : Stands t (with_row h row) (with_tick (true_rules t new m.ticks) m) new
+  pub stands_judged : StandsAfter t (with_row h row) (with_tick (true_rules t new m.ticks) m) new
   stands_judged =
       let k = p.keeps in
       let long = longer h.rows row in
@@ -197,7 +197,7 @@ struck_more [] a = (refl, refl)
 struck_more (taken b ∷ fates) a = let rest = struck_more fates a in (ap (λ l. b ∷ l) rest.0, rest.1)
 struck_more (struck b ∷ fates) a = let rest = struck_more fates a in (rest.0, ap (λ l. b ∷ l) rest.1)
 
-module _ (t : Table) (h : History) (m : State) (mem : List ℕ) (s : Stands t h m mem) (some : 0 < length m.due) where
+module _ (t : Table) (h : History) (m : State) (mem : List ℕ) (s : StandsAfter t h m mem) (some : 0 < length m.due) where
   due_is : (due : List ℕ) → 0 < length due → map (call_in t mem (m.ticks - 1)) due ≡ call_in t mem (m.ticks - 1) (slice_index_or due 0 0) ∷ map (call_in t mem (m.ticks - 1)) (drop 1 due)
   due_is [] none = absurd (omega (arith, none))
   due_is (k ∷ ks) some = refl
@@ -215,9 +215,9 @@ module _ (t : Table) (h : History) (m : State) (mem : List ℕ) (s : Stands t h 
       ∙ ap (λ l. l ++ rest) (sym (map-append settled_call h.settled (fate ∷ [])))
 
   pub is_first_due : IsFirstDue t h m (first_alarm t mem m)
-  is_first_due = record { told = stands_tells t h m mem s; rest = map (call_in t mem (m.ticks - 1)) (drop 1 m.due); first = first_is }
+  is_first_due = record { told = stands_follows t h m mem s; rest = map (call_in t mem (m.ticks - 1)) (drop 1 m.due); first = first_is }
 
-  pub stands_taken : Stands t (with_fate h (taken (first_alarm t mem m))) (with_taken m) mem
+  pub stands_taken : StandsAfter t (with_fate h (taken (first_alarm t mem m))) (with_taken m) mem
   stands_taken =
       let k = s.keeps in
       let more = taken_more h.settled (first_alarm t mem m) in
@@ -233,7 +233,7 @@ module _ (t : Table) (h : History) (m : State) (mem : List ℕ) (s : Stands t h 
         holds = s.holds;
       }
 
-  pub stands_struck : Stands t (with_fate h (struck (first_alarm t mem m))) (with_struck m) mem
+  pub stands_struck : StandsAfter t (with_fate h (struck (first_alarm t mem m))) (with_struck m) mem
   stands_struck =
       let k = s.keeps in
       let more = struck_more h.settled (first_alarm t mem m) in
@@ -250,7 +250,7 @@ module _ (t : Table) (h : History) (m : State) (mem : List ℕ) (s : Stands t h 
       }
 
 -- ---- what is shown
-pub shows : (t : Table) (h : History) (m : State) (mem : List ℕ) (s : ℕ) (r : Shown) → Stands t h m mem → s < length (streams_of t)
+pub shows : (t : Table) (h : History) (m : State) (mem : List ℕ) (s : ℕ) (r : Shown) → StandsAfter t h m mem → s < length (streams_of t)
     → r.index + 1 ≡ m.ticks + lead_of t s → r.value ≡ values_in (rings_of t) mem s r.index → Shows t h m s r
 shows t h m mem s r stands inside index value =
     let x = samples h.rows in
@@ -262,7 +262,7 @@ shows t h m mem s r stands inside index value =
     let known : s < count kind.Stream (records_of t) = let counted = streams_counted t in omega (arith, inside, counted) in
     let met = meets_set t h m due (rules_in t mem (m.ticks - 1) m.due) stands.keeps one.0 one.1 in
     record {
-      told = stands_tells t h m mem stands;
+      told = stands_follows t h m mem stands;
       index = omega (arith, index, ticks, lead);
       value = value ∙ (lawful_of t).shows x n n mem stands.holds one.0.values met s r.index known (omega (arith, index, ticks));
     }

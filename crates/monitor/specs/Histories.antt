@@ -22,8 +22,8 @@ pub record History : Type 0 where
   pub settled : List Fate
 
 -- a day that has just been opened; with another tick judged; with another alarm settled
-abbrev pub opening : History
-opening = record { rows = []; settled = [] }
+abbrev pub new_day : History
+new_day = record { rows = []; settled = [] }
 
 abbrev pub with_row : History → Readings → History
 with_row h row = record h { rows = h.rows ++ (row ∷ []) }
@@ -55,7 +55,7 @@ abbrev pub settled_calls : History → List Call
 settled_calls h = map settled_call h.settled
 
 -- after a day so far: exactly one set of values meets the table's equations on the judged rows; by it, the alarms called are those settled, each once and in order, and then those due; and the monitor has the day's counts and the due alarms' rules
-pub record Tells (t : Table) (h : History) (m : State) : Type 0 where
+pub record Follows (t : Table) (h : History) (m : State) : Type 0 where
   pub set : OneSet (records_of t) (samples h.rows) (length h.rows)
   pub due : List Call
   pub alarms : called (records_of t) (samples h.rows) set.values (length h.rows) ≡ settled_calls h ++ due
@@ -68,12 +68,12 @@ pub record Tells (t : Table) (h : History) (m : State) : Type 0 where
 
 -- the alarm is the first that is due
 pub record IsFirstDue (t : Table) (h : History) (m : State) (a : Alarm) : Type 0 where
-  pub told : Tells t h m
+  pub told : Follows t h m
   pub rest : List Call
   pub first : told.due ≡ call_of a ∷ rest
 
 -- what is shown of a stream: its newest index, its lead past the last judged tick, and the set's value there
 pub record Shows (t : Table) (h : History) (m : State) (s : ℕ) (shown : Shown) : Type 0 where
-  pub told : Tells t h m
+  pub told : Follows t h m
   pub index : shown.index + 1 ≡ length h.rows + told.set.lead s
   pub value : shown.value ≡ told.set.values s shown.index

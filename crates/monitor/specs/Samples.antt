@@ -1,4 +1,4 @@
--- The samples that rows give. Assumes nothing.
+-- The samples that rows give, and what a sample call does to its sampler. Assumes nothing.
 use Rattle.std.specs.Prelude.{◌≡◌, ℕ, ◌<◌, false, List, Some, None, Option, slice_index_or}
 use Rattle.std.specs.Option.{unwrap_or}
 use Rattle.values.specs.declared.value.Value.{Value}
@@ -14,12 +14,12 @@ use Rattle.sampling.specs.Meanings.{SameRows}
 use Rattle.sampling.specs.declared.sampler.Sampler.{Ghosts as Sampler}
 
 -- the value that a row gives at each channel; false where it has nothing
-abbrev pub filled : Readings → ℕ → Value
-filled row c = unwrap_or (row c) (Bool false)
+abbrev pub row_value : Readings → ℕ → Value
+row_value row c = unwrap_or (row c) (Bool false)
 
 -- the samples of the rows of several ticks, from tick 0 on
 abbrev pub samples : List Readings → Samples
-samples rows t c = filled (slice_index_or rows t nothing) c
+samples rows t c = row_value (slice_index_or rows t nothing) c
 
 -- a row has a value of its type at each declared channel
 abbrev pub TypedRow : List Entry → Readings → Type 0

@@ -4,7 +4,7 @@ use Rattle.schedule.specs.declared.plan.Counts.{Counts}
 use Rattle.monitor.specs.declared.counts.AlarmCounts.{AlarmCounts}
 use Rattle.monitor.specs.declared.progress.Progress.{Progress}
 
--- what was opened; how many ticks were judged; the rules whose alarms are due, in order; how many alarms were taken and struck since opening
+-- what was opened; how many ticks were judged; the rules whose alarms are due, in order; how many alarms were taken and struck since new_day
 pub record State : Type 0 where
   pub opened : Counts
   pub ticks : ℕ
@@ -32,5 +32,5 @@ abbrev pub with_struck : State → State
 with_struck s = record s { due = drop 1 s.due; struck = s.struck + 1 }
 
 -- how many alarms were called, taken and struck since opening, and how many are due
-abbrev pub counts_of : State → AlarmCounts
-counts_of s = record { called = s.taken + s.struck + length s.due; taken = s.taken; struck = s.struck; due = length s.due }
+abbrev pub alarm_counts : State → AlarmCounts
+alarm_counts s = record { called = s.taken + s.struck + length s.due; taken = s.taken; struck = s.struck; due = length s.due }

@@ -6,7 +6,7 @@ pub mod judged;
 pub mod progress;
 pub mod ready;
 mod row;
-mod steps;
 pub mod sampled;
 pub mod stand_in;
 pub mod states;
+mod steps;

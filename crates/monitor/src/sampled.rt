@@ -1,13 +1,13 @@
 // A monitor with a tick sampled: it judges.
-ghost use Rattle.std.specs.Prelude.{◌≡◌, length, IfOk, IfErr, OnOk};
+ghost use Rattle.std.specs.Prelude.{◌≡◌, IfOk, IfErr, OnOk};
 ghost use Rattle.rings.specs.Calls.{Judges};
 ghost use Rattle.sampling.specs.Rows.{Readings};
 ghost use Rattle.engine.specs.Rings.{rings_of};
 ghost use Rattle.engine.specs.Rules.{true_rules};
-ghost use Rattle.monitor.specs.States.{counts_of, with_tick};
-ghost use Rattle.monitor.specs.Refusals.{stopped, unfit};
+ghost use Rattle.monitor.specs.States.{alarm_counts, with_tick};
+ghost use Rattle.monitor.specs.Refusals.{fault_of_stopped, unfit};
 ghost use Rattle.monitor.specs.Histories.{History, with_row};
-ghost use Rattle.monitor.specs.Standing.{Pends, GoesOn};
+ghost use Rattle.monitor.specs.Standing.{PendsAfter, GoesOn};
 
 use crate::counts::AlarmCounts;
 use crate::progress::Progress;
@@ -16,18 +16,21 @@ use crate::states::{Judged, Sampled, Stopped};
 use tables::table::Table;
 
 impl Sampled {
-    /// Judges the sampled tick: the alarms of the rules whose guards are true become due.
+    /// Judges the sampled tick: the alarms of the rules whose guards are true become due. Errs, with
+    /// the monitor as it was, where the table is another or the memory too short.
     pub fn judge(
         self,
         table: &Table,
         rings: &mut [u64],
     ) -> Result<(Judged, AlarmCounts), Stopped<Sampled>>
-        ensures refusal { stopped result ≡ unfit self table.now (length rings.old) }
+        ensures refusal { fault_of_stopped result ≡ unfit self table.now rings.old }
         ensures kept { IfErr result (λ e. (e.state ≡ self) × (rings.new ≡ rings.old)) }
         ensures rings { OnOk result (Judges (rings_of table.now) self.ticks rings.old rings.new) }
-        ensures state { IfOk result (λ r. r.0 ≡ with_tick (true_rules table.now rings.new self.ticks) self) }
-        ensures counts { IfOk result (λ r. r.1 ≡ counts_of r.0) }
-        ensures day { IfOk result (λ r. (h : History) (row : Readings) → Pends table.now h row self rings.old →
+        ensures state { IfOk result (λ r.
+            r.0 ≡ with_tick (true_rules table.now rings.new self.ticks) self) }
+        ensures counts { IfOk result (λ r. r.1 ≡ alarm_counts r.0) }
+        ensures day { IfOk result (λ r.
+            (h : History) (row : Readings) → PendsAfter table.now h row self rings.old →
             GoesOn table.now (with_row h row) r.0 rings.new) }
     {
         if let Err(stop) = self.progress.fit(table, rings) {

@@ -45,7 +45,7 @@ pub fn newest(table: &Table, rings: &[u64], ticks: u32, stream: usize) -> Option
     requires known { stream < length (streams_of table.now) }
     ensures { MatchOption result (ticks + lead_of table.now stream ≡ 0)
         (λ p. (p.0 + 1 ≡ ticks + lead_of table.now stream)
-            × (p.1 ≡ values_in (rings_of table.now) rings.now stream p.0)) }
+        × (p.1 ≡ values_in (rings_of table.now) rings.now stream p.0)) }
 {
     None
 }

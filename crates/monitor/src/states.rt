@@ -3,8 +3,12 @@ ghost use Rattle.std.specs.Prelude.{◌≡◌, ◌<◌, []};
 
 use crate::progress::Progress;
 use faults::fault::Fault;
+use faults::upper::UpperFault;
 use std::marker::Model;
 use values::value::Value;
+
+/// A fault of a monitor: its own, or one of a sampler or a sink that it has handed on.
+pub type MonitorFault = UpperFault;
 
 /// A monitor between two ticks: no alarm is due.
 #[derive(Drop)]

@@ -1,22 +1,21 @@
 // What the calls of a monitor have in common.
-ghost use Rattle.std.specs.Prelude.{◌≡◌, ◌-◌, ◌<◌, ℕ, Some, None, length, is_ok, true, IfOk, IfErr, OnOk, OnErr};
-ghost use Rattle.alarms.specs.Arguments.{arguments as values_of};
+ghost use Rattle.std.specs.Prelude.{◌≡◌, ◌<◌, ℕ, Some, length, IfOk, OnOk, OnErr};
 ghost use Rattle.sampling.specs.Meanings.{row_after};
-ghost use Rattle.sampling.specs.Rows.{Readings};
 ghost use Rattle.syntax.specs.declared.record.Kind.TheVariants.{Channel};
 ghost use Rattle.syntax.specs.Entries.{count};
 ghost use Rattle.tables.specs.Tables.{records_of, rules_of, plan_of};
 ghost use Rattle.engine.specs.Rings.{HasRoom, value_at};
-ghost use Rattle.engine.specs.Rules.{arguments_in};
-ghost use Rattle.monitor.specs.States.{state_of, counts_of, with_taken, with_struck};
-ghost use Rattle.monitor.specs.Refusals.{stopped_by, unfit, spent, unsampled, none_due, no_place, ◌orelse◌};
-ghost use Rattle.monitor.specs.Samples.{filled, TypedRow, Polls};
+ghost use Rattle.monitor.specs.States.{state_of, alarm_counts, with_taken, with_struck};
+ghost use Rattle.monitor.specs.Refusals.{fault_of_upper, unfit, out_of_ticks, unsampled};
+ghost use Rattle.monitor.specs.Refusals.{none_due, no_place, ◌orelse◌};
+ghost use Rattle.monitor.specs.Samples.{row_value, TypedRow, Polls};
 ghost use Rattle.monitor.specs.Delivering.{first_due, first_alarm, alarm_in, Delivers};
 
 use crate::counts::AlarmCounts;
 use crate::progress::Progress;
-use crate::row::{MonitorFault, read_samples};
+use crate::row::read_samples;
 use crate::stand_in::arguments;
+use crate::states::MonitorFault;
 use alarms::alarm::Alarm;
 use alarms::sink::Sink;
 use faults::cause::Cause;
@@ -25,10 +24,24 @@ use sampling::sampler::Sampler;
 use tables::table::Table;
 use values::value::Value;
 
+// The alarm of a rule at a tick, its arguments worked out from the rings.
+fn make_alarm(table: &Table, rings: &[u64], tick: u32, rule: u8) -> Alarm
+    requires room { HasRoom table.now rings.now }
+    requires known { rule < length (rules_of table.now) }
+    ensures { result ≡ alarm_in table.now rings.now tick rule }
+{
+    let arguments = arguments(table, rings, tick, rule);
+    Alarm {
+        tick: u64::from(tick),
+        rule,
+        arguments,
+    }
+}
+
 impl Progress {
     // Whether the table has the counts that were opened, and the memory room for its rings.
     pub(crate) fn fit(&self, table: &Table, rings: &[u64]) -> Result<(), MonitorFault>
-        ensures answer { stopped_by result ≡ unfit (state_of self.now) table.now (length rings.now) }
+        ensures answer { fault_of_upper result ≡ unfit (state_of self.now) table.now rings.now }
         ensures same { OnOk result (self.now.opened ≡ (plan_of table.now).counts) }
         ensures room { OnOk result (HasRoom table.now rings.now) }
     {
@@ -44,7 +57,7 @@ impl Progress {
 
     // The counts of the alarms since opening.
     pub(crate) fn counts(&self) -> AlarmCounts
-        ensures { result ≡ counts_of (state_of self.now) }
+        ensures { result ≡ alarm_counts (state_of self.now) }
     {
         let due = self.due.len() as u64;
         AlarmCounts {
@@ -62,17 +75,17 @@ impl Progress {
         rings: &[u64],
         sampler: &mut S,
     ) -> Result<[Value; 16], MonitorFault>
-        ensures answer { stopped_by result ≡ unfit (state_of self.now) table.now (length rings.now)
-            orelse spent self.now.ticks
+        ensures answer { let m = state_of self.now in fault_of_upper result ≡
+            unfit m table.now rings.now orelse out_of_ticks m
             orelse unsampled table.now (S.meaning sampler.old) (S.meaning sampler.new) }
-        ensures sampler { Polls S.Sampler
-            (unfit (state_of self.now) table.now (length rings.now) orelse spent self.now.ticks)
-            sampler.old sampler.new }
+        ensures sampler { let m = state_of self.now in Polls S.Sampler
+            (unfit m table.now rings.now orelse out_of_ticks m) sampler.old sampler.new }
         ensures room { OnOk result (HasRoom table.now rings.now) }
-        ensures next { OnOk result ((S.meaning sampler.old).next ≡ Some (row_after (S.meaning sampler.old))) }
-        ensures typed { OnOk result (TypedRow (records_of table.now) (row_after (S.meaning sampler.old))) }
+        ensures next { let m = S.meaning sampler.old in OnOk result (m.next ≡ Some (row_after m)) }
+        ensures typed { OnOk result
+            (TypedRow (records_of table.now) (row_after (S.meaning sampler.old))) }
         ensures row { IfOk result (λ row. (c : ℕ) → c < count Channel (records_of table.now) →
-            value_at row c ≡ filled (row_after (S.meaning sampler.old)) c) }
+            value_at row c ≡ row_value (row_after (S.meaning sampler.old)) c) }
     {
         self.fit(table, rings)?;
         if self.ticks == u32::MAX {
@@ -84,7 +97,7 @@ impl Progress {
 
     // The rule of the first due alarm.
     fn first(&self) -> Result<u8, MonitorFault>
-        ensures answer { stopped_by result ≡ none_due (state_of self.now) }
+        ensures answer { fault_of_upper result ≡ none_due (state_of self.now) }
         ensures rule { IfOk result (λ r. r ≡ first_due (state_of self.now)) }
         ensures known { IfOk result (λ r. r < self.now.opened.records.rules) }
         ensures some { OnOk result (0 < length self.now.due.items) }
@@ -100,22 +113,20 @@ impl Progress {
         rings: &[u64],
         sink: &mut K,
     ) -> Result<AlarmCounts, MonitorFault>
-        ensures answer { stopped_by result ≡ unfit (state_of self.old) table.now (length rings.now)
-            orelse none_due (state_of self.old)
-            orelse no_place (K.view sink.old) (first_alarm table.now rings.now (state_of self.old))
-                (K.full sink.old (first_alarm table.now rings.now (state_of self.old))) }
-        ensures sink { Delivers K.Sink
-            (unfit (state_of self.old) table.now (length rings.now) orelse none_due (state_of self.old))
-            (first_alarm table.now rings.now (state_of self.old)) sink.old sink.new }
+        ensures answer { let m = state_of self.old in fault_of_upper result ≡
+            unfit m table.now rings.now orelse none_due m
+            orelse no_place K.Sink sink.old (first_alarm table.now rings.now m) }
+        ensures sink { let m = state_of self.old in Delivers K.Sink
+            (unfit m table.now rings.now orelse none_due m)
+            (first_alarm table.now rings.now m) sink.old sink.new }
         ensures some { OnOk result (0 < length self.old.due.items) }
         ensures went { OnOk result (state_of self.new ≡ with_taken (state_of self.old)) }
         ensures kept { OnErr result (self.new ≡ self.old) }
-        ensures counts { IfOk result (λ c. c ≡ counts_of (state_of self.new)) }
+        ensures counts { IfOk result (λ c. c ≡ alarm_counts (state_of self.new)) }
     {
         self.fit(table, rings)?;
         let rule = self.first()?;
-        let tick = self.ticks.saturating_sub(1);
-        let alarm = make_alarm(table, rings, tick, rule);
+        let alarm = make_alarm(table, rings, self.ticks - 1, rule);
         sink.take(alarm)?;
         self.due.remove(0);
         self.taken += 1;
@@ -124,30 +135,15 @@ impl Progress {
 
     // Drops the first due alarm.
     pub(crate) fn strike_first(&mut self) -> Result<AlarmCounts, MonitorFault>
-        ensures answer { stopped_by result ≡ none_due (state_of self.old) }
+        ensures answer { fault_of_upper result ≡ none_due (state_of self.old) }
         ensures some { OnOk result (0 < length self.old.due.items) }
         ensures went { OnOk result (state_of self.new ≡ with_struck (state_of self.old)) }
         ensures kept { OnErr result (self.new ≡ self.old) }
-        ensures counts { IfOk result (λ c. c ≡ counts_of (state_of self.new)) }
+        ensures counts { IfOk result (λ c. c ≡ alarm_counts (state_of self.new)) }
     {
         self.first()?;
         self.due.remove(0);
         self.struck += 1;
         Ok(self.counts())
-    }
-}
-
-// The alarm of a rule at a tick, its arguments worked out from the rings.
-fn make_alarm(table: &Table, rings: &[u64], tick: u32, rule: u8) -> Alarm
-    requires room { HasRoom table.now rings.now }
-    requires known { rule < length (rules_of table.now) }
-    ensures is { result ≡ alarm_in table.now rings.now tick rule }
-    ensures values { values_of result.arguments ≡ arguments_in table.now rings.now tick rule }
-{
-    let arguments = arguments(table, rings, tick, rule);
-    Alarm {
-        tick: u64::from(tick),
-        rule,
-        arguments,
     }
 }

@@ -1,5 +1,5 @@
 use Rattle.std.proofs.Common.{rules, ap, sym, subst, length, arith, ◌∙◌, ◌≤◌}
-use Rattle.monitor.proofs.Reading.{channel_more, channel_stops, none_stops, typed_row, filled_row}
+use Rattle.monitor.proofs.Reading.{channel_more, channel_stops, none_stops, typed_row, row_filled}
 use Rattle.monitor.proofs.row.read_samples.Goals as goal
 
 pub loop-channel-preserved : goal.loop-channel-preserved
@@ -27,4 +27,4 @@ returns-clause-typed g c =
 pub returns-clause-row : goal.returns-clause-row
 returns-clause-row g c =
     let m = g.S.Sampler.meaning c.args.sampler.now in
-    filled_row c.args.table.now m.present m.dark c.loop-channel.channel c.loop-channel.row (subst (λ xs. length xs ≤ c.loop-channel.channel) c.channels-declared-items.ensures c.loop-channel-test.false) c.loop-channel.invariant
+    row_filled c.args.table.now m.present m.dark c.loop-channel.channel c.loop-channel.row (subst (λ xs. length xs ≤ c.loop-channel.channel) c.channels-declared-items.ensures c.loop-channel-test.false) c.loop-channel.invariant
