@@ -26,7 +26,7 @@ use Rattle.monitor.specs.Delivering.{first_alarm, first_due}
 use Rattle.monitor.specs.Histories.{Fate, History, new_day, with_row, with_fate, taken, struck, all_taken, all_struck, call_of, settled_call, settled_calls, Follows, IsFirstDue, Shows}
 use Rattle.monitor.specs.Standing.{call_in, due_in, Matches, StandsAfter, PendsAfter, GoesOn}
 use Rattle.monitor.proofs.Known.{streams_counted}
-use Rattle.monitor.proofs.Engine.{lawful_of, leads_of, past_of, one_set_of}
+use Rattle.monitor.proofs.Engine.{lawful_of, leads_of, past_rested, one_set_of}
 use Rattle.monitor.proofs.Calling.{call_of_alarm, called_by_rules}
 
 -- ---- opening
@@ -159,7 +159,7 @@ module _ (t : Table) (h : History) (row : Readings) (m : State) (old new : List 
   called_now v meets =
       let k = length h.rows in
       let rs = records_of t in
-      let past = past_of t in
+      let past = past_rested t in
       let same : SameSamples rs k y (samples h.rows) = λ tick c before inside. same_before h.rows row tick c before in
       let then_met = met_before v meets in
       let met = past.values (lead_of t) (leads_of t) y (samples h.rows) k same v then_met in

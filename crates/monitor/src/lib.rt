@@ -10,3 +10,5 @@ pub mod sampled;
 pub mod stand_in;
 pub mod states;
 mod steps;
+#[cfg(test)]
+mod tests;
