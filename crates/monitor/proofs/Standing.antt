@@ -26,7 +26,7 @@ use Rattle.monitor.specs.Delivering.{first_alarm, first_due}
 use Rattle.monitor.specs.Histories.{Fate, History, new_day, with_row, with_fate, taken, struck, all_taken, all_struck, call_of, settled_call, settled_calls, Follows, IsFirstDue, Shows}
 use Rattle.monitor.specs.Standing.{call_in, due_in, Matches, StandsAfter, PendsAfter, GoesOn}
 use Rattle.monitor.proofs.Known.{streams_counted}
-use Rattle.monitor.proofs.Engine.{lawful_of, leads_of, past_rested, one_set_of}
+use Rattle.engine.proofs.Histories.{lawful_of, leads_of, rests_on_the_past, one_set_of}
 use Rattle.monitor.proofs.Calling.{call_of_alarm, called_by_rules}
 
 -- ---- opening
@@ -49,15 +49,12 @@ module _ (t : Table) (h : History) (m : State) (due : List Call) (rules : m.due 
   abbrev n : ℕ
   n = length h.rows
 
-  pub meets_set : (s : OneSet (records_of t) x n) → s.lead ≡ lead_of t → Meets (records_of t) (lead_of t) x n s.values
-  meets_set s same = subst (λ lead. Meets (records_of t) lead x n s.values) same s.meets
-
   abbrev pub follows : Follows t h m
   follows =
       let one = one_set_of t x n k.typed in
-      let alarms = k.alarms one.0.values (meets_set one.0 one.1) in
+      let alarms = k.alarms one.values one.meets in
       record {
-        set = one.0;
+        set = one;
         due = due;
         alarms = alarms;
         opened = k.opened;
@@ -159,7 +156,7 @@ module _ (t : Table) (h : History) (row : Readings) (m : State) (old new : List 
   called_now v meets =
       let k = length h.rows in
       let rs = records_of t in
-      let past = past_rested t in
+      let past = rests_on_the_past t in
       let same : SameSamples rs k y (samples h.rows) = λ tick c before inside. same_before h.rows row tick c before in
       let then_met = met_before v meets in
       let met = past.values (lead_of t) (leads_of t) y (samples h.rows) k same v then_met in
@@ -257,12 +254,9 @@ shows t h m mem s r stands inside index value =
     let n = length h.rows in
     let one = one_set_of t x n stands.keeps.typed in
     let ticks = stands.keeps.ticks in
-    let due = due_in t mem m in
-    let lead : one.0.lead s ≡ lead_of t s = ap (λ (f : ℕ → ℕ). f s) one.1 in
     let known : s < count kind.Stream (records_of t) = let counted = streams_counted t in omega (arith, inside, counted) in
-    let met = meets_set t h m due (rules_in t mem (m.ticks - 1) m.due) stands.keeps one.0 one.1 in
     record {
       told = stands_follows t h m mem stands;
-      index = omega (arith, index, ticks, lead);
-      value = value ∙ (lawful_of t).shows x n n mem stands.holds one.0.values met s r.index known (omega (arith, index, ticks));
+      index = omega (arith, index, ticks);
+      value = value ∙ (lawful_of t).shows x n n mem stands.holds one.values one.meets s r.index known (omega (arith, index, ticks));
     }

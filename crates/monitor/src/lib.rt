@@ -7,7 +7,6 @@ pub mod progress;
 pub mod ready;
 mod row;
 pub mod sampled;
-pub mod stand_in;
 pub mod states;
 mod steps;
 #[cfg(test)]

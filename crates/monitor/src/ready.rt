@@ -15,9 +15,10 @@ ghost use Rattle.monitor.specs.Histories.{History, new_day, Shows};
 ghost use Rattle.monitor.specs.Standing.{StandsAfter, PendsAfter, GoesOn};
 
 use crate::progress::Progress;
-use crate::stand_in::{newest, open, store_samples};
 use crate::states::{MonitorFault, Ready, Sampled, Shown, Stopped};
 use arrayvec::ArrayVec;
+use engine::reading::newest;
+use engine::tick::{open, store_samples};
 use faults::cause::Cause;
 use faults::fault::{Fault, Layer};
 use sampling::sampler::Sampler;

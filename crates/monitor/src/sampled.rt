@@ -11,8 +11,9 @@ ghost use Rattle.monitor.specs.Standing.{PendsAfter, GoesOn};
 
 use crate::counts::AlarmCounts;
 use crate::progress::Progress;
-use crate::stand_in::{find_called, judge};
 use crate::states::{Judged, Sampled, Stopped};
+use engine::rules::find_called;
+use engine::tick::judge;
 use tables::table::Table;
 
 impl Sampled {

@@ -14,10 +14,10 @@ ghost use Rattle.monitor.specs.Delivering.{first_due, first_alarm, alarm_in, Del
 use crate::counts::AlarmCounts;
 use crate::progress::Progress;
 use crate::row::read_samples;
-use crate::stand_in::arguments;
 use crate::states::MonitorFault;
 use alarms::alarm::Alarm;
 use alarms::sink::Sink;
+use engine::rules::arguments;
 use faults::cause::Cause;
 use faults::fault::Layer;
 use sampling::sampler::Sampler;

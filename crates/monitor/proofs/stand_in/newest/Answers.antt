@@ -1,4 +1,0 @@
-use Rattle.monitor.proofs.stand_in.newest.Goals as goal
-
-pub returns : goal.returns
-returns = ?
