@@ -50,7 +50,7 @@ use Rattle.tables.specs.declared.content.Stream.{Stream}
 use Rattle.tables.specs.declared.table.Table.{Table}
 use Rattle.tables.specs.Contents.{of_kind, stream_entry, rule_entry, greatest_lead_in}
 use Rattle.tables.specs.Tables.{records_of, channels_of, streams_of, rules_of, plan_of, IsAccepted}
-use Rattle.tables.proofs.Known.{well_typed, channel_count, stream_count, rule_count, types_of_its_channels, types_of_its_streams, ring_of_channel, ring_of_stream}
+use Rattle.tables.proofs.Known.{well_typed, channel_count, stream_count, rule_count, channel_types_are, stream_types_are, ring_of_channel, ring_of_stream}
 use Rattle.engine.specs.Known.{Has, IsOwn}
 use Rattle.engine.specs.Rings.{rings_of, lead_of, HasRoom, read_at}
 use Rattle.engine.proofs.Props.{value_set, values_set, own_prop, opens_prop, stores_prop, judges_prop}
@@ -181,7 +181,7 @@ module _ (t : Table) (a : IsAccepted t) where
     is_type : x.ty ≡ channel_type (records_of t) c
     is_type =
         ap (λ (y : Channel). y.ty) e ∙ sym (get_or-map (λ (y : Channel). y.ty) (channels_of t) c x type.Bool l) ∙
-        ap (λ (ts : List Ty). get_or ts c type.Bool) (types_of_its_channels t a)
+        ap (λ (ts : List Ty). get_or ts c type.Bool) (channel_types_are t a)
 
     samples_same : (mem : List ℕ) (n : ℕ) → wrap x.ty (pos (get_or mem (x.ring.base + n % x.ring.length) 0)) ≡ samples_in (rings_of t) mem n c
     samples_same mem n = ap₂ (λ (y : Ty) (r : Ring). wrap y (pos (get_or mem (r.base + n % r.length) 0))) is_type is_channel_ring

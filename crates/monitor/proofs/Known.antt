@@ -10,14 +10,14 @@ use Rattle.syntax.specs.Entries.{count}
 use Rattle.typing.specs.Scopes.{channel_types}
 use Rattle.tables.specs.declared.table.Table.{Table}
 use Rattle.tables.specs.Tables.{records_of, channels_of, streams_of, rules_of, plan_of, IsAccepted}
-use Rattle.tables.proofs.Known.{channel_count, stream_count, rule_count, types_of_its_channels}
+use Rattle.tables.proofs.Known.{channel_count, stream_count, rule_count, channel_types_are}
 
 types_set : IsSet (List Ty)
 types_set = hlevel props
 
 module _ (t : Table) where
   pub declared_types : map (λ c. c.ty) (channels_of t) ≡ channel_types (records_of t)
-  declared_types = ∥∥₁_elim t.accepted (types_set _ _) (λ a. types_of_its_channels t a)
+  declared_types = ∥∥₁_elim t.accepted (types_set _ _) (λ a. channel_types_are t a)
 
   pub channels_counted : length (channels_of t) ≡ count kind.Channel (records_of t)
   channels_counted = ∥∥₁_elim t.accepted (ℕ_set _ _) (λ a. channel_count t a)
