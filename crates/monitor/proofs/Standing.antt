@@ -129,8 +129,8 @@ pends t h m row old new s idle typed stores =
     record {
       keeps = subst (λ due. Matches t h m (map (call_in t old (m.ticks - 1)) due)) idle s.keeps;
       row_typed = typed;
-      holds = law.samples x n (row_value row) old new stored (λ c inside. sym (newest_is h.rows row c))
-          (law.past (samples h.rows) x n n old (omega arith) (same_rows h.rows row t) s.holds);
+      holds = law.keeps.samples x n (row_value row) old new stored (λ c inside. sym (newest_is h.rows row c))
+          (law.keeps.past (samples h.rows) x n n old (omega arith) (same_rows h.rows row t) s.holds);
     }
 
 -- ---- a tick judged
@@ -145,7 +145,7 @@ module _ (t : Table) (h : History) (row : Readings) (m : State) (old new : List 
   typed_now = typed_more h.rows row t p.keeps.typed p.row_typed
 
   holds_now : HoldsValues (rings_of t) y (length h.rows + 1) (length h.rows + 1) new
-  holds_now = (lawful_of t).judges y (length h.rows) old new judged typed_now p.holds
+  holds_now = (lawful_of t).keeps.judges y (length h.rows) old new judged typed_now p.holds
 
   -- a set that meets the equations now met them before
   met_before : (v : Values) → Meets (records_of t) (lead_of t) y (length h.rows + 1) v → Meets (records_of t) (lead_of t) y (length h.rows) v
@@ -161,7 +161,7 @@ module _ (t : Table) (h : History) (row : Readings) (m : State) (old new : List 
       let then_met = met_before v meets in
       let met = past.values (lead_of t) (leads_of t) y (samples h.rows) k same v then_met in
       let before : called rs y v k ≡ settled_calls h = past.alarms (lead_of t) (leads_of t) y (samples h.rows) k same v v then_met met ∙ p.keeps.alarms v met ∙ append-nil (settled_calls h) in
-      let here : called_at rs y v k ≡ map (call_in t new k) (true_rules t new k) = sym ((lawful_of t).calls y k new holds_now typed_now v meets) ∙ called_by_rules t new k in
+      let here : called_at rs y v k ≡ map (call_in t new k) (true_rules t new k) = sym ((lawful_of t).reads.alarms y k new holds_now typed_now v meets) ∙ called_by_rules t new k in
       let one_more : k + 1 ≡ suc k = omega arith in
       ap (called rs y v) one_more ∙ (λ i. before i ++ here i)
 
@@ -258,5 +258,5 @@ shows t h m mem s r stands inside index value =
     record {
       told = stands_follows t h m mem stands;
       index = omega (arith, index, ticks);
-      value = value ∙ (lawful_of t).shows x n n mem stands.holds one.values one.meets s r.index known (omega (arith, index, ticks));
+      value = value ∙ (lawful_of t).reads.newest x n n mem stands.holds one.values one.meets s r.index known (omega (arith, index, ticks));
     }
