@@ -1,0 +1,2 @@
+pub mod Pollers
+pub mod Relays
