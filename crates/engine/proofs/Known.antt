@@ -301,8 +301,11 @@ module _ (t : Table) where
   pub few_rules : length (rules_of t) ≤ 16
   few_rules = ∥∥₁_elim t.accepted le_prop (λ a. omega (arith, rule_count t a, a.in_order.few kind.Rule))
 
-  pub channels_counted : length (channels_of t) ≡ count kind.Channel (records_of t)
-  channels_counted = ∥∥₁_elim t.accepted (ℕ_set _ _) (λ a. channel_count t a)
+  pub streams_counted : length (streams_of t) ≡ count kind.Stream (records_of t)
+  streams_counted = ∥∥₁_elim t.accepted (ℕ_set _ _) (λ a. stream_count t a)
+
+  pub rules_counted : length (rules_of t) ≡ length (rules (records_of t))
+  rules_counted = ∥∥₁_elim t.accepted (ℕ_set _ _) (λ a. sym (length-map (rules_of t) rule_by) ∙ ap length (rules_are t a))
 
   module _ (mem : List ℕ) (room : HasRoom t mem) where
     pub sampled : (n : ℕ) (row : ℕ → Value) (new : List ℕ) → new ≡ stored_samples (rings_of t) n row mem (length (channels_of t)) → StoresSamples (rings_of t) n row mem new

@@ -1,8 +1,18 @@
 // The engine: a table's values in rings of the caller's memory, tick by tick.
 #![tactic(auto)]
 
-pub mod reading;
+ghost use Rattle.engine.specs.Laws.{IsLawful};
+
+use tables::table::Table;
+
 mod reader;
+pub mod reading;
 pub mod ring;
 pub mod rules;
 pub mod tick;
+
+/// Does nothing: its contract says that exactly one set of values meets the equations of any table,
+/// and what its rings hold after each call.
+pub fn laws(_table: &Table)
+    ensures { IsLawful _table.now }
+{}

@@ -1,11 +1,12 @@
 // What is read off the rings of a table.
-ghost use Rattle.std.specs.Prelude.{◌≡◌, ◌+◌, ◌^◌, ◌<◌, length, MatchOption};
+ghost use Rattle.std.specs.Prelude.{◌≡◌, ◌+◌, ◌^◌, ◌<◌, length, MatchOption, IfSome};
 ghost use Rattle.syntax.specs.Trees.{exp};
 ghost use Rattle.equations.specs.Equations.{by_equation};
 ghost use Rattle.rings.specs.Memory.{samples_in, values_in};
 ghost use Rattle.tables.specs.Tables.{records_of, streams_of};
 ghost use Rattle.engine.specs.Known.{IsOwn};
 ghost use Rattle.engine.specs.Rings.{rings_of, lead_of, HasRoom, read_at};
+ghost use Rattle.engine.specs.Laws.{ShowsValue};
 
 use crate::reader::Reader;
 use crate::ring::slot;
@@ -46,9 +47,10 @@ pub(crate) fn work_out(table: &Table, rings: &[u64], stream: usize, index: usize
 pub fn newest(table: &Table, rings: &[u64], ticks: u32, stream: usize) -> Option<(u64, Value)>
     requires room { HasRoom table.now rings.now }
     requires known { stream < length (streams_of table.now) }
-    ensures { MatchOption result (ticks + lead_of table.now stream ≡ 0)
+    ensures read { MatchOption result (ticks + lead_of table.now stream ≡ 0)
         (λ p. (p.0 + 1 ≡ ticks + lead_of table.now stream)
-            × (p.1 ≡ values_in (rings_of table.now) rings.now stream p.0)) }
+        × (p.1 ≡ values_in (rings_of table.now) rings.now stream p.0)) }
+    ensures shows { IfSome result (λ p. ShowsValue table.now ticks rings.now stream p.0 p.1) }
 {
     let stream = &table.streams()[stream];
     let end = u64::from(ticks) + u64::from(stream.ring.lead);

@@ -4,6 +4,7 @@ ghost use Rattle.alarms.specs.Arguments.{arguments as values_of};
 ghost use Rattle.tables.specs.Tables.{rules_of};
 ghost use Rattle.engine.specs.Rings.{HasRoom};
 ghost use Rattle.engine.specs.Rules.{true_rules, arguments_in};
+ghost use Rattle.engine.specs.Laws.{FindsCalled, FindsArguments};
 
 use crate::reading::read;
 use alarms::alarm::Arguments;
@@ -18,6 +19,7 @@ pub fn find_called(table: &Table, rings: &[u64], tick: u32) -> ArrayVec<u8, RULE
     ensures rules { result.items ≡ true_rules table.now rings.now tick }
     ensures few { length result.items ≤ 16 }
     ensures known { All (λ k. k < length (rules_of table.now)) result.items }
+    ensures called { FindsCalled table.now tick rings.now result.items }
 {
     let mut called = ArrayVec::new();
     for (number, rule) in table.rules().iter().enumerate() {
@@ -31,8 +33,10 @@ pub fn find_called(table: &Table, rings: &[u64], tick: u32) -> ArrayVec<u8, RULE
 /// The values of a rule's arguments at a tick; none where there is no such rule.
 pub fn arguments(table: &Table, rings: &[u64], tick: u32, rule: u8) -> Arguments
     requires { HasRoom table.now rings.now }
-    ensures { rule < length (rules_of table.now) →
+    ensures read { rule < length (rules_of table.now) →
         values_of result ≡ arguments_in table.now rings.now tick rule }
+    ensures called { rule < length (rules_of table.now) →
+        FindsArguments table.now tick rings.now rule (values_of result) }
 {
     let mut arguments = Arguments::new();
     let Some(rule) = table.rules().get(usize::from(rule)) else {

@@ -7,6 +7,7 @@ ghost use Rattle.rings.specs.Steps.{stored_value, worked_first};
 ghost use Rattle.tables.specs.Contents.{greatest_lead_in};
 ghost use Rattle.tables.specs.Tables.{records_of, streams_of, plan_of};
 ghost use Rattle.engine.specs.Rings.{rings_of, HasRoom, value_at};
+ghost use Rattle.engine.specs.Laws.{AddsSamples, AddsValues};
 
 use crate::reading::work_out;
 use crate::ring::slot;
@@ -55,7 +56,8 @@ pub fn open(table: &Table, rings: &mut [u64])
 /// Stores the samples of a tick: of each declared channel the row's value.
 pub fn store_samples(table: &Table, rings: &mut [u64], tick: u32, row: &[Value; 16])
     requires { HasRoom table.now rings.old }
-    ensures { StoresSamples (rings_of table.now) tick (value_at row.now) rings.old rings.new }
+    ensures made { StoresSamples (rings_of table.now) tick (value_at row.now) rings.old rings.new }
+    ensures holds { AddsSamples table.now tick (value_at row.now) rings.old rings.new }
 {
     for (number, channel) in table.channels().iter().enumerate() {
         rings[slot(&channel.ring, tick as usize)] = row[number].word();
@@ -65,7 +67,8 @@ pub fn store_samples(table: &Table, rings: &mut [u64], tick: u32, row: &[Value; 
 /// Works out and stores every stream's value of a tick.
 pub fn judge(table: &Table, rings: &mut [u64], tick: u32)
     requires { HasRoom table.now rings.old }
-    ensures { Judges (rings_of table.now) tick rings.old rings.new }
+    ensures made { Judges (rings_of table.now) tick rings.old rings.new }
+    ensures holds { AddsValues table.now tick rings.old rings.new }
 {
     let top = table.greatest_lead() as usize;
     work_tick(table, rings, tick as usize + top, top);

@@ -8,6 +8,7 @@ use Rattle.tables.specs.Tables.{rules_of}
 use Rattle.engine.specs.Rings.{read_at}
 use Rattle.engine.proofs.Known.{found, indexed, argument_own, four_arguments, its_arguments}
 use Rattle.engine.proofs.Calling.{pushed, read_on, of_trees}
+use Rattle.engine.proofs.Histories.{finds_arguments}
 use Rattle.engine.proofs.rules.arguments.Goals as goal
 
 pub read-requires-clause-own : goal.read-requires-clause-own
@@ -37,8 +38,8 @@ loop-argument-preserved c =
     read_on read items n y inside c.argument-item.is (arguments old) (arguments new) c.loop-argument.invariant
     (pushed c.read.result old new c.push-room.result c.push-room.ensures few ∙ ap (λ (v : Value). arguments old ++ (v ∷ [])) c.read.ensures)
 
-pub returns : goal.returns
-returns c known =
+pub returns-clause-read : goal.returns-clause-read
+returns-clause-read c known =
     let t = c.args.table.now in
     let (l, e) = found (rules_of t) c.rules.result.now c.args.rule c.from.result c.in-Some.rule.now c.rules.ensures c.from.ensures c.in-Some.ensures.lookup.0 c.in-Some.ensures.lookup.1 in
     let x = c.in-Some.rule.now in
@@ -47,3 +48,7 @@ returns c known =
     let whole : take n c.deref-argument-items.result.now ≡ vec_items x.arguments =
     take_all n c.deref-argument-items.result.now c.loop-argument-test.false ∙ c.deref-argument-items.ensures.value in
     c.loop-argument.invariant ∙ ap (map (λ (z : Expr). read (exp z))) whole ∙ of_trees read (vec_items x.arguments) ∙ its_arguments t c.args.rule x l e read
+
+pub returns-clause-called : goal.returns-clause-called
+returns-clause-called c known =
+    finds_arguments c.args.table.now c.args.tick c.args.rings.now c.args.rule (arguments c.loop-argument.arguments) known (returns-clause-read c known)

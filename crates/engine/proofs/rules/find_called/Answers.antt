@@ -7,6 +7,7 @@ use Rattle.operators.specs.Operators.{truth}
 use Rattle.tables.specs.Tables.{rules_of}
 use Rattle.engine.proofs.Known.{indexed, guard_own, few_rules}
 use Rattle.engine.proofs.Calling.{one_more, few_true, all_true, all_known}
+use Rattle.engine.proofs.Histories.{finds_called}
 use Rattle.engine.proofs.rules.find_called.Goals as goal
 use Rattle.engine.proofs.rules.find_called.Goals.{then-is_true, else-is_true}
 
@@ -70,3 +71,6 @@ returns-clause-known c k d h =
     let end : c.loop-number.number ≡ length (rules_of t) = omega (arith, c.loop-number-test.false, ap length c.rules-rule-items.ensures, c.loop-number.auto) in
     All-get_or (λ (j : ℕ). j < length (rules_of t)) c.loop-number.called.items k d h
     (subst (AllByRecursion (λ j. j < length (rules_of t))) (sym c.loop-number.invariant) (all_known t c.args.rings.now c.args.tick c.loop-number.number end))
+
+pub returns-clause-called : goal.returns-clause-called
+returns-clause-called c = finds_called c.args.table.now c.args.tick c.args.rings.now c.loop-number.called.items (returns-clause-rules c)

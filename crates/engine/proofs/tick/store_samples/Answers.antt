@@ -6,6 +6,7 @@ use Rattle.tables.specs.declared.content.Channel.{Channel}
 use Rattle.tables.specs.Tables.{channels_of}
 use Rattle.engine.specs.Rings.{rings_of, value_at}
 use Rattle.engine.proofs.Known.{read_there, channel_lies, channel_slot, few_channels, sampled}
+use Rattle.engine.proofs.Histories.{adds_samples}
 use Rattle.engine.proofs.tick.store_samples.Goals as goal
 
 abbrev no_channel : Channel
@@ -65,9 +66,12 @@ loop-number-preserved c =
     ap (λ (m : List ℕ). set m c.slot.result c.word.result) c.loop-number.invariant ∙
     ap₂ (set (rows n)) (c.slot.ensures.is ∙ channel_slot t n x l e c.args.tick) c.word.ensures.value ∙ ap rows more
 
-pub returns : goal.returns
-returns c =
+pub returns-clause-made : goal.returns-clause-made
+returns-clause-made c =
     let t = c.args.table.now in
     let end : c.loop-number.number ≡ length (channels_of t) = omega (arith, c.loop-number-test.false, ap length c.channels-channel-items.ensures, c.loop-number.auto) in
     sampled t c.args.rings.now c.requires c.args.tick (value_at c.args.row.now) c.loop-number.rings
     (c.loop-number.invariant ∙ ap (λ (k : ℕ). stored_samples (rings_of t) c.args.tick (value_at c.args.row.now) c.args.rings.now k) end)
+
+pub returns-clause-holds : goal.returns-clause-holds
+returns-clause-holds c = adds_samples c.args.table.now c.args.tick (value_at c.args.row.now) c.args.rings.now c.loop-number.rings (returns-clause-made c)
