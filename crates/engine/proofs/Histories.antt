@@ -10,15 +10,15 @@ use Rattle.equations.proofs.Ranking.{place}
 use Rattle.equations.proofs.Sound.{Sound}
 use Rattle.equations.proofs.Sounding.{leads, sound, one_set, past_of}
 use Rattle.rings.specs.Memory.{values_in}
-use Rattle.rings.specs.Calls.{StoresSamples, Judges}
+use Rattle.rings.specs.Calls.{StoresSamples, Judges, OpensAndJudges}
 use Rattle.rings.specs.Laws.{Lawful}
 use Rattle.rings.proofs.Tables.{laws}
 use Rattle.tables.specs.declared.table.Table.{Table}
 use Rattle.tables.specs.Contents.{greatest_lead_in}
 use Rattle.tables.specs.Tables.{records_of, streams_of, rules_of, plan_of}
-use Rattle.engine.specs.Rings.{rings_of, lead_of}
+use Rattle.engine.specs.Rings.{rings_of, lead_of, samples_of}
 use Rattle.engine.specs.Rules.{true_rules, arguments_in}
-use Rattle.engine.specs.Laws.{IsLawful, AddsSamples, AddsValues, ShowsValue, FindsCalled, FindsArguments}
+use Rattle.engine.specs.Laws.{IsLawful, AddsSamples, AddsValues, HoldsRows, ShowsValue, FindsCalled, FindsArguments}
 use Rattle.engine.proofs.Props.{sound_prop, lawful_prop}
 use Rattle.engine.proofs.Known.{well_planned, most, streams_counted, rules_counted}
 
@@ -58,3 +58,7 @@ module _ (t : Table) where
 
   pub finds_arguments : (n : ℕ) (mem : List ℕ) (k : ℕ) (vs : List Value) → k < length (rules_of t) → vs ≡ arguments_in t mem n k → FindsArguments t n mem k vs
   finds_arguments n mem k vs l is x v j = is ∙ (lawful_of.reads.rules_at x n mem j.holds j.typed v j.meets k (omega (arith, l, rules_counted t))).arguments
+
+  -- ---- after all rows
+  pub holds_rows : (rows : List (List Value)) (old new : List ℕ) → OpensAndJudges (rings_of t) (samples_of rows) (length rows) old new → HoldsRows t rows new
+  holds_rows rows old new made typed = lawful_of.keeps.ticks (samples_of rows) (length rows) old new made typed

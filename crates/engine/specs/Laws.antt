@@ -1,5 +1,5 @@
 -- What the calls make of rings that hold the values of a history of samples, whatever that is, and what is read off them then. Assumes nothing.
-use Rattle.std.specs.Prelude.{◌≡◌, ℕ, ◌+◌, ◌<◌, List, map}
+use Rattle.std.specs.Prelude.{◌≡◌, ℕ, ◌+◌, ◌<◌, List, length, map}
 use Rattle.values.specs.declared.value.Value.{Value}
 use Rattle.syntax.specs.declared.record.Kind.TheVariants.{Channel}
 use Rattle.syntax.specs.Entries.{count}
@@ -11,7 +11,7 @@ use Rattle.rings.specs.Memory.{HoldsValues}
 use Rattle.rings.specs.Laws.{Lawful}
 use Rattle.tables.specs.declared.table.Table.{Table}
 use Rattle.tables.specs.Tables.{records_of}
-use Rattle.engine.specs.Rings.{rings_of, lead_of}
+use Rattle.engine.specs.Rings.{rings_of, lead_of, samples_of}
 
 -- the samples of tick n join those of the ticks before it
 abbrev pub AddsSamples : Table → ℕ → (ℕ → Value) → List ℕ → List ℕ → Type 0
@@ -22,6 +22,11 @@ AddsSamples t n row old new =
 abbrev pub AddsValues : Table → ℕ → List ℕ → List ℕ → Type 0
 AddsValues t n old new =
     (x : Samples) → TypedSamples (records_of t) x (n + 1) → HoldsValues (rings_of t) x (n + 1) n old → HoldsValues (rings_of t) x (n + 1) (n + 1) new
+
+-- after rows of the declared types the rings hold the values of all their ticks
+abbrev pub HoldsRows : Table → List (List Value) → List ℕ → Type 0
+HoldsRows t rows mem =
+    TypedSamples (records_of t) (samples_of rows) (length rows) → HoldsValues (rings_of t) (samples_of rows) (length rows) (length rows) mem
 
 -- w is what the one set of values has for the stream s at index i, after n ticks
 abbrev pub ShowsValue : Table → ℕ → List ℕ → ℕ → ℕ → Value → Type 0

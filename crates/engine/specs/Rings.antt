@@ -1,5 +1,5 @@
 -- A table's values in memory. Assumes nothing.
-use Rattle.std.specs.Prelude.{ℕ, ◌≤◌, List, length, slice_index_or, false, if◌then◌else◌, nat_lt}
+use Rattle.std.specs.Prelude.{ℕ, ◌≤◌, List, [], length, slice_index_or, false, if◌then◌else◌, nat_lt}
 use Rattle.values.specs.declared.value.Value.{Value}
 use Rattle.values.specs.declared.value.Value.TheVariants.{Bool}
 use Rattle.evaluation.specs.Meaning.{Samples, Values, meaning}
@@ -35,3 +35,7 @@ values_read t mem s i = if nat_lt s (length (streams_of t)) then values_in (ring
 -- the values of a row by channel
 abbrev pub value_at : List Value → ℕ → Value
 value_at row c = slice_index_or row c (Bool false)
+
+-- the samples that rows give, tick by tick
+abbrev pub samples_of : List (List Value) → Samples
+samples_of rows t c = value_at (slice_index_or rows t []) c

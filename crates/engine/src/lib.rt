@@ -16,3 +16,6 @@ pub mod tick;
 pub fn laws(_table: &Table)
     ensures { IsLawful _table.now }
 {}
+
+#[cfg(test)]
+mod tests;

@@ -2,12 +2,12 @@
 ghost use Rattle.std.specs.Prelude.{◌≡◌, ◌+◌, ◌^◌, ◌<◌, length};
 ghost use Rattle.syntax.specs.declared.record.Kind.TheVariants.{Stream};
 ghost use Rattle.syntax.specs.Entries.{count};
-ghost use Rattle.rings.specs.Calls.{OpensRings, StoresSamples, Judges};
+ghost use Rattle.rings.specs.Calls.{OpensRings, StoresSamples, Judges, OpensAndJudges};
 ghost use Rattle.rings.specs.Steps.{stored_value, worked_first};
 ghost use Rattle.tables.specs.Contents.{greatest_lead_in};
 ghost use Rattle.tables.specs.Tables.{records_of, streams_of, plan_of};
-ghost use Rattle.engine.specs.Rings.{rings_of, HasRoom, value_at};
-ghost use Rattle.engine.specs.Laws.{AddsSamples, AddsValues};
+ghost use Rattle.engine.specs.Rings.{rings_of, HasRoom, value_at, samples_of};
+ghost use Rattle.engine.specs.Laws.{AddsSamples, AddsValues, HoldsRows};
 
 use crate::reading::work_out;
 use crate::ring::slot;
@@ -72,4 +72,19 @@ pub fn judge(table: &Table, rings: &mut [u64], tick: u32)
 {
     let top = table.greatest_lead() as usize;
     work_tick(table, rings, tick as usize + top, top);
+}
+
+/// Opens the rings, and then stores the samples of a tick for each row and judges it.
+pub fn run(table: &Table, rings: &mut [u64], rows: &[[Value; 16]])
+    requires room { HasRoom table.now rings.old }
+    requires few { length rows.now < 2 ^ 32 }
+    ensures made { OpensAndJudges (rings_of table.now) (samples_of rows.now) (length rows.now)
+        rings.old rings.new }
+    ensures holds { HoldsRows table.now rows.now rings.new }
+{
+    open(table, rings);
+    for (tick, row) in rows.iter().enumerate() {
+        store_samples(table, rings, tick as u32, row);
+        judge(table, rings, tick as u32);
+    }
 }
