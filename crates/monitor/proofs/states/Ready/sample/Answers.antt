@@ -10,7 +10,7 @@ pub returns-in-Ok-clause-day : goal.returns-in-Ok-clause-day
 returns-in-Ok-clause-day g c h s =
     let t = c.args.table.now in
     let read = c.in-Ok.ensures in
-    let stores = c.store_samples.ensures in
+    let stores = c.store_samples.ensures.made in
     let row = row_after (g.S.Sampler.meaning c.args.sampler.now) in (
       row,
       read.next,

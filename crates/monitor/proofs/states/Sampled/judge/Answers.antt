@@ -19,7 +19,7 @@ returns-clause-day c h row p =
     let mem = c.judge.new.rings in
     let is = c.self.view_is in
     let ticks = ap (λ (n : State). n.ticks) is in
-    let j = subst (λ tick. Judges (rings_of t) tick c.args.rings.now mem) ticks c.judge.ensures in
+    let j = subst (λ tick. Judges (rings_of t) tick c.args.rings.now mem) ticks c.judge.ensures.made in
     let rules = c.find_called.ensures.rules ∙ ap (true_rules t mem) ticks in
     goes_on t (with_row h row) (with_tick (true_rules t mem m.ticks) m) _ mem
     (λ i. record { opened = (is i).opened; ticks = (is i).ticks + 1; due = rules i; taken = (is i).taken; struck = (is i).struck })
