@@ -1,0 +1,3 @@
+mod Absent
+mod Going
+mod Running
