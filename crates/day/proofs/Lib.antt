@@ -1,3 +1,4 @@
 mod Absent
+mod Ending
 mod Going
 mod Running
