@@ -9,7 +9,7 @@ use Rattle.day.specs.declared.calls.Call.{Call}
 use Rattle.day.specs.declared.calls.Call.TheVariants.{Sample, Judge, Deliver, Strike, Close, Show}
 use Rattle.day.specs.declared.states.Monitor.{Monitor}
 use Rattle.day.specs.declared.states.Monitor.TheVariants as kind
-use Rattle.day.specs.Calls.{has, moment, Made, Goes}
+use Rattle.day.specs.Calls.{has, moment, Made, MakesCall}
 
 pub not_ready : (m : State) (call : Call) → (call ≡ Sample → ⊥) → ((s : ℕ) → call ≡ Show s → ⊥) → has (kind.Ready m) call ≡ false
 not_ready m Sample n o = absurd (n refl)
@@ -36,7 +36,7 @@ not_judged m Close d s c = absurd (c refl)
 not_judged m (Show n) d s c = refl
 
 -- and then the answer says so, and nothing changes
-pub absent : {S K : Type 0} (sampler : Sampler S) (sink : Sink K) (t : Table) (call : Call) (monitor : Monitor) (rings : List ℕ) (s : S) (k : K) → has monitor call ≡ false → Goes sampler sink t call answer.Absent monitor rings s k monitor rings s k
+pub absent : {S K : Type 0} (sampler : Sampler S) (sink : Sink K) (t : Table) (call : Call) (monitor : Monitor) (rings : List ℕ) (s : S) (k : K) → has monitor call ≡ false → MakesCall sampler sink t call answer.Absent monitor rings s k monitor rings s k
 absent sampler sink t call monitor rings s k none h row st =
     let now = moment monitor h row rings s k in
     record {

@@ -10,10 +10,9 @@ use Rattle.alarms.proofs.Offering.{took_more}
 use Rattle.sampling.specs.declared.sampler.Sampler.{Ghosts as Sampler}
 use Rattle.sampling.specs.Rows.{Readings}
 use Rattle.tables.specs.declared.table.Table.{Table}
-use Rattle.tables.specs.Tables.{records_of}
 use Rattle.monitor.specs.Delivering.{first_alarm, Delivers, OfferedOnce}
-use Rattle.monitor.specs.Refusals.{◌orelse◌, none_due, no_place}
-use Rattle.monitor.specs.Histories.{History, Fate, taken, struck, with_fate, all_taken, ComesTo}
+use Rattle.monitor.specs.Refusals.{◌orelse◌, none_due}
+use Rattle.monitor.specs.Histories.{History, Fate, taken, struck, with_fate, all_taken}
 use Rattle.day.specs.declared.calls.Answer.{Answer}
 use Rattle.day.specs.declared.calls.Answer.TheVariants as answer
 use Rattle.day.specs.declared.calls.Call.{Call}
@@ -21,14 +20,8 @@ use Rattle.day.specs.declared.calls.Call.TheVariants.{Sample, Judge, Deliver, St
 use Rattle.day.specs.declared.host.Host.{Ghosts as Host}
 use Rattle.day.specs.declared.states.Monitor.{Monitor}
 use Rattle.day.specs.declared.states.Monitor.TheVariants as kind
-use Rattle.day.specs.Calls.{state_in, has, Moment, moment, reason, Kept, Effect, Made, Did, StandsIn, Goes, fault_in}
-use Rattle.day.specs.Days.{Line, Turn, Turns, Ends, MakesCalls, GoesOn, LeavesSink}
-
--- what a history comes to, wherever monitor and rings stand as after it
-pub comes_to : (t : Table) (h : History) (row : Readings) (monitor : Monitor) (rings : List ℕ) → StandsIn t h row monitor rings → ComesTo (records_of t) h (state_in monitor)
-comes_to t h row (kind.Ready m) rings st = st.comes
-comes_to t h row (kind.Sampled m) rings st = st.comes
-comes_to t h row (kind.Judged m) rings st = st.comes
+use Rattle.day.specs.Calls.{state_in, has, Moment, moment, reason, Kept, Effect, Made, Did, StandsIn, MakesCall, fault_in}
+use Rattle.day.specs.Days.{Line, Turn, Turns, LeavesSink}
 
 -- ---- the alarms taken, with one settled more
 taken_more : (fs : List Fate) (a : Alarm) → all_taken (fs ++ (taken a ∷ [])) ≡ all_taken fs ++ (a ∷ [])
@@ -118,7 +111,7 @@ module _ {S K H : Type 0} (sampler : Sampler S) (sink : Sink K) (host : Host H S
 
   pub going_more : (n : ℕ) (m₀ m m' : Monitor) (rs₀ rs rs' : List ℕ) (s₀ s s₁ s' : S) (k₀ k k₁ k' : K) (g₀ g g₁ g₂ g' : H) (call : Call) (a : Answer)
       → Going n m₀ rs₀ s₀ k₀ g₀ m rs s k g → host.asks g (Some call) g₁ → host.handles call g₁ s k g₂ s₁ k₁
-      → Goes sampler sink t call a m rs s₁ k₁ m' rs' s' k' → host.hears a g₂ g' → Going (n + 1) m₀ rs₀ s₀ k₀ g₀ m' rs' s' k' g'
+      → MakesCall sampler sink t call a m rs s₁ k₁ m' rs' s' k' → host.hears a g₂ g' → Going (n + 1) m₀ rs₀ s₀ k₀ g₀ m' rs' s' k' g'
   going_more n m₀ m m' rs₀ rs rs' s₀ s s₁ s' k₀ k k₁ k' g₀ g g₁ g₂ g' call a w asks handles goes hears h row st =
       let x = w h row st in
       let y = goes x.past x.row x.stands in
@@ -127,7 +120,7 @@ module _ {S K H : Type 0} (sampler : Sampler S) (sink : Sink K) (host : Host H S
       let mid = moment m x.past x.row rs s k in
       let to = moment m' y.past y.row rs' s' k' in
       let turn : Turn sampler sink host t line g mid g' to =
-      record { asked = g₁; handled = g₂; sampler' = s₁; sink' = k₁; asks = asks; handles = handles; comes = comes_to t x.past x.row m rs x.stands; did = y.did; hears = hears } in
+      record { asked = g₁; handled = g₂; sampler' = s₁; sink' = k₁; asks = asks; handles = handles; follows = x.stands.follows; did = y.did; hears = hears } in
       let count = x.count in
       let long = length-append x.lines (line ∷ []) in
       record {

@@ -1,11 +1,10 @@
 -- A day: the calls that a host asks for, one after another, and what they come to. Assumes nothing.
-use Rattle.std.specs.Prelude.{◌≡◌, ℕ, ◌+◌, ◌<◌, ◌⊎◌, List, [], ◌∷◌, length, Some, None, Ok, Err, Option, Result}
+use Rattle.std.specs.Prelude.{◌≡◌, ℕ, ◌<◌, ◌⊎◌, List, [], ◌∷◌, length, Some, None, Ok, Err, Option, Result}
 use Rattle.faults.specs.declared.fault.Fault.{Fault}
 use Rattle.faults.specs.declared.stop.Stop.{Stop}
 use Rattle.faults.specs.declared.stop.Stop.TheVariants as stop
 use Rattle.alarms.specs.declared.sink.Sink.{Ghosts as Sink}
 use Rattle.alarms.specs.Sinks.{TookAll}
-use Rattle.equations.specs.Alarms.{called}
 use Rattle.sampling.specs.declared.sampler.Sampler.{Ghosts as Sampler}
 use Rattle.sampling.specs.Rows.{Readings, nothing}
 use Rattle.schedule.specs.declared.plan.Counts.{Counts}
@@ -13,13 +12,12 @@ use Rattle.walks.specs.declared.edge.SheetEntry.{SheetEntry}
 use Rattle.tables.specs.declared.table.Table.{Table}
 use Rattle.tables.specs.Checking.{Answers, Decided}
 use Rattle.tables.specs.Rejecting.{Rejection}
-use Rattle.tables.specs.Tables.{records_of, plan_of}
+use Rattle.tables.specs.Tables.{plan_of}
 use Rattle.rings.specs.Calls.{OpensRings}
 use Rattle.engine.specs.Rings.{rings_of}
-use Rattle.monitor.specs.States.{State, opened_on}
-use Rattle.monitor.specs.Samples.{samples}
+use Rattle.monitor.specs.States.{opened_on}
 use Rattle.monitor.specs.Refusals.{no_room}
-use Rattle.monitor.specs.Histories.{History, no_history, all_taken, ticks_of, ComesTo}
+use Rattle.monitor.specs.Histories.{History, new_day, all_taken, Follows}
 use Rattle.day.specs.declared.calls.Answer.{Answer}
 use Rattle.day.specs.declared.calls.Call.{Call}
 use Rattle.day.specs.declared.host.Host.{Ghosts as Host}
@@ -42,8 +40,8 @@ module _ {S K H : Type 0} (sampler : Sampler S) (sink : Sink K) (host : Host H S
     pub sink' : K
     pub asks : host.asks g (Some line.call) asked
     pub handles : host.handles line.call asked m.sampler m.sink handled sampler' sink'
-    -- what happened until then comes to this
-    pub comes : ComesTo (records_of t) m.past (state_in m.monitor)
+    -- what follows from what happened until then
+    pub follows : Follows t m.past (state_in m.monitor)
     pub did : Did sampler sink t line.call line.answer (record m { sampler = sampler'; sink = sink' }) n
     pub hears : host.hears line.answer handled g'
 
@@ -53,25 +51,25 @@ module _ {S K H : Type 0} (sampler : Sampler S) (sink : Sink K) (host : Host H S
   Turns (line ∷ lines) g m g' n = (h : H) × (o : Moment S K) × Turn line g m h o × Turns lines h o g' n
 
   -- the calls end where the host asks for nothing more, before there are `most`; or where there are so many, and it is not asked again
-  abbrev pub Ends : ℕ → ℕ → H → H → Type 0
-  Ends most calls g g' = ((calls < most) × host.asks g None g') ⊎ ((calls ≡ most) × (g' ≡ g))
+  abbrev pub DayEnds : ℕ → ℕ → H → H → Type 0
+  DayEnds most calls g g' = ((calls < most) × host.asks g None g') ⊎ ((calls ≡ most) × (g' ≡ g))
 
   -- all calls from a moment on, and the history and the row with which they end
-  pub record MakesCalls (most : ℕ) (g : H) (m : Moment S K) (monitor : Monitor) (rings : List ℕ) (s : S) (k : K) (g' : H) : Type 0 where
+  pub record AllCalls (most : ℕ) (g : H) (m : Moment S K) (monitor : Monitor) (rings : List ℕ) (s : S) (k : K) (g' : H) : Type 0 where
     pub past : History
     pub row : Readings
     pub lines : List Line
     pub heard : H
     pub turns : Turns lines g m heard (moment monitor past row rings s k)
-    pub ends : Ends most (length lines) heard g'
+    pub ends : DayEnds most (length lines) heard g'
     -- and the monitor can go on
     pub stands : StandsIn t past row monitor rings
 
   -- so it is from any moment on at which monitor and rings stand as after what happened
-  abbrev pub GoesOn : ℕ → Monitor → List ℕ → S → K → H → Monitor → List ℕ → S → K → H → Type 0
-  GoesOn most monitor rings s k g monitor' rings' s' k' g' =
+  abbrev pub MakesCalls : ℕ → Monitor → List ℕ → S → K → H → Monitor → List ℕ → S → K → H → Type 0
+  MakesCalls most monitor rings s k g monitor' rings' s' k' g' =
       (h : History) (row : Readings) → StandsIn t h row monitor rings
-      → MakesCalls most g (moment monitor h row rings s k) monitor' rings' s' k' g'
+      → AllCalls most g (moment monitor h row rings s k) monitor' rings' s' k' g'
 
   -- the host leaves the sink as it shows
   abbrev pub LeavesSink : Type 0
@@ -82,9 +80,8 @@ module _ {S K H : Type 0} (sampler : Sampler S) (sink : Sink K) (host : Host H S
   pub record Day (most : ℕ) (rings : List ℕ) (s : S) (k : K) (g : H) (monitor : Monitor) (rings' : List ℕ) (s' : S) (k' : K) (g' : H) : Type 0 where
     pub opened : List ℕ
     pub opens : OpensRings (rings_of t) rings opened
-    pub calls : MakesCalls most g (moment (kind.Ready (opened_on (plan_of t).counts)) no_history nothing opened s k) monitor rings' s' k' g'
-    pub comes : ComesTo (records_of t) calls.past (state_in monitor)
-    pub sum : length (called (records_of t) (samples calls.past.rows) comes.set.values (ticks_of calls.past)) ≡ (state_in monitor).taken + (state_in monitor).struck + length (state_in monitor).due
+    pub calls : AllCalls most g (moment (kind.Ready (opened_on (plan_of t).counts)) new_day nothing opened s k) monitor rings' s' k' g'
+    pub follows : Follows t calls.past (state_in monitor)
     pub took : LeavesSink → TookAll sink.adds (all_taken calls.past.settled) (sink.view k) (sink.view k')
 
   -- nothing of the four was touched
@@ -95,22 +92,22 @@ module _ {S K H : Type 0} (sampler : Sampler S) (sink : Sink K) (host : Host H S
     pub host_is : g' ≡ g
 
   -- a day is run where the rings have room; otherwise its opening is refused
-  abbrev pub Runs : ℕ → List ℕ → S → K → H → Result Monitor Fault → List ℕ → S → K → H → Type 0
-  Runs most rings s k g (Ok monitor) rings' s' k' g' =
-      (no_room (plan_of t).counts (length rings) ≡ None) × Day most rings s k g monitor rings' s' k' g'
-  Runs most rings s k g (Err fault) rings' s' k' g' =
-      (no_room (plan_of t).counts (length rings) ≡ Some fault) × Untouched rings s k g rings' s' k' g'
+  abbrev pub RunsDay : ℕ → List ℕ → S → K → H → Result Monitor Fault → List ℕ → S → K → H → Type 0
+  RunsDay most rings s k g (Ok monitor) rings' s' k' g' =
+      (no_room (plan_of t).counts rings ≡ None) × Day most rings s k g monitor rings' s' k' g'
+  RunsDay most rings s k g (Err fault) rings' s' k' g' =
+      (no_room (plan_of t).counts rings ≡ Some fault) × Untouched rings s k g rings' s' k' g'
 
   -- the same where the bytes of the table were checked first
-  abbrev pub RunsChecked : Result Counts Rejection → ℕ → List ℕ → S → K → H → Result Monitor (Stop Fault) → List ℕ → S → K → H → Type 0
-  RunsChecked (Err x) most rings s k g result rings' s' k' g' = (result ≡ Err x) × Untouched rings s k g rings' s' k' g'
-  RunsChecked (Ok c) most rings s k g (Ok monitor) rings' s' k' g' = Runs most rings s k g (Ok monitor) rings' s' k' g'
-  RunsChecked (Ok c) most rings s k g (Err (stop.Refused fault)) rings' s' k' g' = Runs most rings s k g (Err fault) rings' s' k' g'
-  RunsChecked (Ok c) most rings s k g (Err stop.Memory) rings' s' k' g' = ⊥
+  abbrev pub RunsIfChecked : Result Counts Rejection → ℕ → List ℕ → S → K → H → Result Monitor (Stop Fault) → List ℕ → S → K → H → Type 0
+  RunsIfChecked (Err x) most rings s k g result rings' s' k' g' = (result ≡ Err x) × Untouched rings s k g rings' s' k' g'
+  RunsIfChecked (Ok c) most rings s k g (Ok monitor) rings' s' k' g' = RunsDay most rings s k g (Ok monitor) rings' s' k' g'
+  RunsIfChecked (Ok c) most rings s k g (Err (stop.Refused fault)) rings' s' k' g' = RunsDay most rings s k g (Err fault) rings' s' k' g'
+  RunsIfChecked (Ok c) most rings s k g (Err stop.Memory) rings' s' k' g' = ⊥
 
 -- a day from bytes: what the check answers and decides of them, and leaves of table and sheet; and the day, by the table that it left
-pub record Takes {S K H : Type 0} (sampler : Sampler S) (sink : Sink K) (host : Host H S K) (old new : Table) (bytes : List ℕ) (sheet sheet' : List SheetEntry) (most : ℕ) (rings : List ℕ) (s : S) (k : K) (g : H) (result : Result Monitor (Stop Fault)) (rings' : List ℕ) (s' : S) (k' : K) (g' : H) : Type 0 where
+pub record TakesDay {S K H : Type 0} (sampler : Sampler S) (sink : Sink K) (host : Host H S K) (old new : Table) (bytes : List ℕ) (sheet sheet' : List SheetEntry) (most : ℕ) (rings : List ℕ) (s : S) (k : K) (g : H) (result : Result Monitor (Stop Fault)) (rings' : List ℕ) (s' : S) (k' : K) (g' : H) : Type 0 where
   pub check : Result Counts Rejection
   pub answers : Answers old new bytes sheet sheet' check
   pub decided : Decided bytes sheet check
-  pub runs : RunsChecked sampler sink host new check most rings s k g result rings' s' k' g'
+  pub runs : RunsIfChecked sampler sink host new check most rings s k g result rings' s' k' g'

@@ -1,7 +1,7 @@
 // A day: the calls that a host asks for, one after another.
 ghost use Rattle.std.specs.Prelude.{◌≡◌};
-ghost use Rattle.day.specs.Calls.{Goes};
-ghost use Rattle.day.specs.Days.{GoesOn, Runs, Takes};
+ghost use Rattle.day.specs.Calls.{MakesCall};
+ghost use Rattle.day.specs.Days.{MakesCalls, RunsDay, TakesDay};
 
 use crate::calls::{Answer, Call};
 use crate::host::Host;
@@ -24,7 +24,7 @@ fn call_ready<S: Sampler, K: Sink>(
     sampler: &mut S,
     sink: &mut K,
 ) -> (Monitor, Answer)
-    ensures { Goes S.Sampler K.Sink table.now call result.1
+    ensures { MakesCall S.Sampler K.Sink table.now call result.1
         (Monitor.Ready monitor) rings.old sampler.old sink.old
         result.0 rings.new sampler.new sink.new }
 {
@@ -50,7 +50,7 @@ fn call_sampled<S: Sampler, K: Sink>(
     sampler: &mut S,
     sink: &mut K,
 ) -> (Monitor, Answer)
-    ensures { Goes S.Sampler K.Sink table.now call result.1
+    ensures { MakesCall S.Sampler K.Sink table.now call result.1
         (Monitor.Sampled monitor) rings.old sampler.old sink.old
         result.0 rings.new sampler.new sink.new }
 {
@@ -72,7 +72,7 @@ fn call_judged<S: Sampler, K: Sink>(
     sampler: &mut S,
     sink: &mut K,
 ) -> (Monitor, Answer)
-    ensures { Goes S.Sampler K.Sink table.now call result.1
+    ensures { MakesCall S.Sampler K.Sink table.now call result.1
         (Monitor.Judged monitor) rings.old sampler.old sink.old
         result.0 rings.new sampler.new sink.new }
 {
@@ -102,7 +102,7 @@ pub(crate) fn make_call<S: Sampler, K: Sink>(
     sampler: &mut S,
     sink: &mut K,
 ) -> (Monitor, Answer)
-    ensures { Goes S.Sampler K.Sink table.now call result.1
+    ensures { MakesCall S.Sampler K.Sink table.now call result.1
         monitor rings.old sampler.old sink.old
         result.0 rings.new sampler.new sink.new }
 {
@@ -123,7 +123,7 @@ fn make_calls<S: Sampler, K: Sink, H: Host<S, K>>(
     host: &mut H,
     most: u64,
 ) -> Monitor
-    ensures { GoesOn S.Sampler K.Sink H.Host table.now most
+    ensures { MakesCalls S.Sampler K.Sink H.Host table.now most
         monitor rings.old sampler.old sink.old host.old
         result rings.new sampler.new sink.new host.new }
 {
@@ -149,7 +149,7 @@ pub fn run_day<S: Sampler, K: Sink, H: Host<S, K>>(
     host: &mut H,
     most: u64,
 ) -> Result<Monitor, Fault>
-    ensures { Runs S.Sampler K.Sink H.Host table.now most
+    ensures { RunsDay S.Sampler K.Sink H.Host table.now most
         rings.old sampler.old sink.old host.old result
         rings.new sampler.new sink.new host.new }
 {
@@ -178,7 +178,7 @@ pub fn take_day<S: Sampler, K: Sink, H: Host<S, K>>(
     host: &mut H,
     most: u64,
 ) -> Result<Monitor, Stop<Fault>>
-    ensures { Takes S.Sampler K.Sink H.Host table.old table.new bytes.now sheet.old sheet.new most
+    ensures { TakesDay S.Sampler K.Sink H.Host table.old table.new bytes.now sheet.old sheet.new most
         rings.old sampler.old sink.old host.old result
         rings.new sampler.new sink.new host.new }
 {
