@@ -1,10 +1,10 @@
 -- The one set of values of an accepted table, and what the calls make of rings that hold it. Assumes nothing.
-use Rattle.std.proofs.Common.{◌≡◌, ℕ, ◌+◌, ◌<◌, List, length, map, sym, ap, ◌∙◌, arith}
+use Rattle.std.proofs.Common.{◌≡◌, ℕ, ◌+◌, ◌<◌, List, length, map, ap, ◌∙◌, arith}
 use Rattle.std.proofs.Math.Logic.{∥∥₁_elim, ∥∥₁_prop}
 use Rattle.values.specs.declared.value.Value.{Value}
 use Rattle.evaluation.specs.Meaning.{Samples}
 use Rattle.equations.specs.Equations.{Leads, TypedSamples, OneSet}
-use Rattle.equations.specs.Alarms.{Call, rules}
+use Rattle.equations.specs.Alarms.{Call}
 use Rattle.equations.specs.Laws.{RestsOnThePast}
 use Rattle.equations.proofs.Ranking.{place}
 use Rattle.equations.proofs.Sound.{Sound}

@@ -6,7 +6,7 @@ use Rattle.std.proofs.Props.{props}
 use Rattle.std.specs.Coded.{le_prop}
 use Rattle.std.specs.List.{AllByRecursion}
 use Rattle.std.proofs.lemmas.Bool.{cond-true, cond-false, lt-ltb, le-ltb, ltb-true, le-leb, lt-leb}
-use Rattle.std.proofs.ByRecursion.{All-weaker, All-get_or, All-map}
+use Rattle.std.proofs.ByRecursion.{All-weaker, All-get_or}
 use Rattle.std.proofs.lemmas.List.{length-map, get_or-map, get_or_default}
 use Rattle.values.specs.declared.types.«Type».{«Type» as Ty}
 use Rattle.values.specs.declared.types.«Type».TheVariants as type
@@ -27,14 +27,14 @@ use Rattle.names.specs.Uses.{uses}
 use Rattle.references.specs.declared.reference.Id.{Id}
 use Rattle.schedule.specs.declared.plan.Ring.{Ring}
 use Rattle.schedule.specs.Graphs.{channel, stream}
-use Rattle.schedule.specs.Plans.{HasRing, ring_of, lead_in, no_ring}
+use Rattle.schedule.specs.Plans.{HasRing, ring_of, lead_in}
 use Rattle.schedule.proofs.Taking.{channel_ring, stream_ring}
 use Rattle.evaluation.specs.Meaning.{Samples, Values, meaning, levels}
 use Rattle.equations.specs.Equations.{Equation, equations, no_equation, equation_of, opening_of, channel_type, by_equation}
 use Rattle.equations.specs.Alarms.{rules, no_rule, rule_of}
 use Rattle.equations.specs.Alarms as alarm
 use Rattle.equations.specs.Laws.{WellPlanned}
-use Rattle.equations.proofs.Listing.{type_same, stream_record, rule_record, of_stream}
+use Rattle.equations.proofs.Listing.{rule_record, of_stream}
 use Rattle.equations.proofs.Ranking.{place}
 use Rattle.equations.proofs.Sound.{Reads}
 use Rattle.rings.specs.Systems.{slot}
@@ -50,9 +50,9 @@ use Rattle.tables.specs.declared.content.Stream.{Stream}
 use Rattle.tables.specs.declared.table.Table.{Table}
 use Rattle.tables.specs.Contents.{of_kind, stream_entry, rule_entry, greatest_lead_in}
 use Rattle.tables.specs.Tables.{records_of, channels_of, streams_of, rules_of, plan_of, IsAccepted}
-use Rattle.tables.proofs.Known.{well_typed, channel_count, stream_count, rule_count, channel_types_are, stream_types_are, ring_of_channel, ring_of_stream}
+use Rattle.tables.proofs.Known.{well_typed, channel_count, stream_count, rule_count, channel_types_are, ring_of_channel, ring_of_stream}
 use Rattle.engine.specs.Known.{Has, IsOwn}
-use Rattle.engine.specs.Rings.{rings_of, lead_of, HasRoom, read_at}
+use Rattle.engine.specs.Rings.{rings_of, lead_of, HasRoom}
 use Rattle.engine.proofs.Props.{value_set, values_set, own_prop, opens_prop, stores_prop, judges_prop}
 
 -- ---- the greatest of some numbers

@@ -1,5 +1,5 @@
 -- What is known of a table's own expressions. Assumes nothing.
-use Rattle.std.specs.Prelude.{◌≡◌, ℕ, ◌<◌, ◌≤◌, List, length}
+use Rattle.std.specs.Prelude.{◌<◌, ◌≤◌, length}
 use Rattle.std.specs.List.{AllByRecursion}
 use Rattle.syntax.specs.Trees.{Exp}
 use Rattle.names.specs.declared.uses.Name.{Name}

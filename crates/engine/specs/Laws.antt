@@ -33,8 +33,8 @@ abbrev pub ShowsValue : Table → ℕ → List ℕ → ℕ → ℕ → Value →
 ShowsValue t n mem s i w =
     (x : Samples) (m : ℕ) (v : Values) → HoldsValues (rings_of t) x m n mem → Meets (records_of t) (lead_of t) x n v → w ≡ v s i
 
--- rings after the judged tick n, and the one set of values
-pub record Judged (t : Table) (n : ℕ) (mem : List ℕ) (x : Samples) (v : Values) : Type 0 where
+-- the rings hold the values of the one set up to the judged tick n
+pub record AfterTick (t : Table) (n : ℕ) (mem : List ℕ) (x : Samples) (v : Values) : Type 0 where
   pub typed : TypedSamples (records_of t) x (n + 1)
   pub holds : HoldsValues (rings_of t) x (n + 1) (n + 1) mem
   pub meets : Meets (records_of t) (lead_of t) x (n + 1) v
@@ -42,12 +42,12 @@ pub record Judged (t : Table) (n : ℕ) (mem : List ℕ) (x : Samples) (v : Valu
 -- these are the rules that call an alarm at tick n by that set
 abbrev pub FindsCalled : Table → ℕ → List ℕ → List ℕ → Type 0
 FindsCalled t n mem ks =
-    (x : Samples) (v : Values) → Judged t n mem x v → ks ≡ map (λ (c : Call). c.rule) (called_at (records_of t) x v n)
+    (x : Samples) (v : Values) → AfterTick t n mem x v → ks ≡ map (λ (c : Call). c.rule) (called_at (records_of t) x v n)
 
 -- and these are the values of the k-th rule's arguments
 abbrev pub FindsArguments : Table → ℕ → List ℕ → ℕ → List Value → Type 0
 FindsArguments t n mem k vs =
-    (x : Samples) (v : Values) → Judged t n mem x v → vs ≡ map (meaning x v n) (rule_of (records_of t) k).arguments
+    (x : Samples) (v : Values) → AfterTick t n mem x v → vs ≡ map (meaning x v n) (rule_of (records_of t) k).arguments
 
 -- exactly one set of values meets the table's equations, whatever the samples and however many ticks
 abbrev pub HasOneSet : Table → Type 0

@@ -1,6 +1,5 @@
 -- The rules of a table at a tick, by what the slots hold. Assumes nothing.
 use Rattle.std.specs.Prelude.{ℕ, List, map}
-use Rattle.operators.specs.Operators.{truth}
 use Rattle.values.specs.declared.value.Value.{Value}
 use Rattle.equations.specs.Alarms.{Call, called_at, rule_of}
 use Rattle.rings.specs.Memory.{samples_in, values_in}

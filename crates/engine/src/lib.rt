@@ -7,7 +7,7 @@ use tables::table::Table;
 
 mod reader;
 pub mod reading;
-pub mod ring;
+mod ring;
 pub mod rules;
 pub mod tick;
 

@@ -1,4 +1,4 @@
-use Rattle.std.proofs.Common.{◌≡◌, ℕ, ◌+◌, ◌-◌, ◌%◌, ◌<◌, length, get_or, pos, ap, sym, subst, ◌∙◌, arith}
+use Rattle.std.proofs.Common.{ℕ, ◌+◌, ◌-◌, get_or, pos, ap, ◌∙◌, arith}
 use Rattle.values.specs.Values.{wrap}
 use Rattle.tables.specs.Tables.{streams_of}
 use Rattle.engine.proofs.Known.{indexed, stream_lies, stream_read, lead_is}

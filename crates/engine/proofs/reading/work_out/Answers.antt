@@ -1,8 +1,7 @@
-use Rattle.std.proofs.Common.{◌≡◌, ℕ, ◌-◌, ◌<◌, ◌≤◌, length, vec_items, false, get_or, ap, sym, subst, ◌∙◌, arith}
+use Rattle.std.proofs.Common.{◌≡◌, ℕ, ◌-◌, ◌<◌, length, vec_items, false, ap, ◌∙◌, arith}
 use Rattle.std.proofs.lemmas.List.{get_or_default}
 use Rattle.values.specs.declared.value.Value.TheVariants.{Bool}
 use Rattle.syntax.specs.Trees.{exp}
-use Rattle.evaluation.specs.Meaning.{meaning}
 use Rattle.rings.specs.Memory.{samples_in, values_in}
 use Rattle.tables.specs.Tables.{streams_of}
 use Rattle.engine.specs.Rings.{rings_of, read_at}

@@ -1,4 +1,4 @@
-use Rattle.std.proofs.Common.{◌≡◌, ℕ, ◌+◌, ◌%◌, ◌<◌, ◌≤◌, length, get_or, set, ap, ap₂, sym, subst, ◌∙◌, arith}
+use Rattle.std.proofs.Common.{◌+◌, ◌%◌, set, ap, ap₂, sym, subst, ◌∙◌, arith}
 use Rattle.values.specs.Values.{word}
 use Rattle.tables.specs.declared.content.Stream.{Stream}
 use Rattle.tables.specs.Tables.{streams_of}

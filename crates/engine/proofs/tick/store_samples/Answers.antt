@@ -1,4 +1,4 @@
-use Rattle.std.proofs.Common.{◌≡◌, ℕ, suc, ◌+◌, ◌<◌, List, length, get_or, set, ap, ap₂, ◌∙◌, subst, arith}
+use Rattle.std.proofs.Common.{◌≡◌, ℕ, suc, ◌+◌, ◌<◌, List, length, get_or, set, ap, ap₂, ◌∙◌, arith}
 use Rattle.rings.specs.Steps.{stored_samples}
 use Rattle.values.specs.declared.types.«Type».TheVariants as type
 use Rattle.schedule.specs.Plans.{no_ring}

@@ -1,4 +1,4 @@
-use Rattle.std.proofs.Common.{◌≡◌, ℕ, ◌+◌, ◌<◌, List, length, get_or, ap, ◌∙◌, sym, arith}
+use Rattle.std.proofs.Common.{◌≡◌, ℕ, List, length, get_or, ap, ◌∙◌, sym, arith}
 use Rattle.rings.specs.Steps.{worked_first}
 use Rattle.tables.specs.declared.content.Stream.{Stream}
 use Rattle.tables.specs.Tables.{streams_of, plan_of}

@@ -1,4 +1,4 @@
-use Rattle.std.proofs.Common.{◌≡◌, ℕ, ◌+◌, ◌%◌, ◌<◌, length, get_or, pos, ◌∙◌, sym, ap, arith}
+use Rattle.std.proofs.Common.{ℕ, length, get_or, pos, ◌∙◌, sym, ap, arith}
 use Rattle.std.proofs.lemmas.Bool.{cond-true, lt-ltb}
 use Rattle.values.specs.Values.{wrap}
 use Rattle.tables.specs.Tables.{channels_of}
