@@ -21,7 +21,7 @@ use Rattle.engine.specs.Rings.{rings_of, lead_of}
 use Rattle.engine.specs.Rules.{true_rules, called_in}
 use Rattle.monitor.specs.declared.states.Shown.{Shown}
 use Rattle.monitor.specs.States.{State, opened_on, with_tick, with_taken, with_struck}
-use Rattle.monitor.specs.Samples.{samples, row_value, TypedRow}
+use Rattle.monitor.specs.Samples.{samples, row_value, TypedRow, TypedRows}
 use Rattle.monitor.specs.Delivering.{first_alarm, first_due}
 use Rattle.monitor.specs.Histories.{Fate, History, new_day, with_row, with_fate, taken, struck, all_taken, all_struck, call_of, settled_call, settled_calls, Follows, IsFirstDue, Shows}
 use Rattle.monitor.specs.Standing.{call_in, due_in, Matches, StandsAfter, PendsAfter, GoesOn}
@@ -32,9 +32,18 @@ use Rattle.monitor.proofs.Calling.{call_of_alarm, called_by_rules}
 -- ---- opening
 pub stands_opened : (t : Table) (old new : List ℕ) → OpensRings (rings_of t) old new → StandsAfter t new_day (opened_on (plan_of t).counts) new
 stands_opened t old new opens = record {
-  keeps = record { opened = refl; ticks = refl; typed = λ n c before. absurd (omega (arith, before)); alarms = λ v meets. refl; taken = refl; struck = refl };
+  keeps = record { opened = refl; ticks = refl; typed = λ n before. absurd (omega (arith, before)); alarms = λ v meets. refl; taken = refl; struck = refl };
   holds = opens.held (samples []);
 }
+
+-- ---- rows with a value of its type at each declared channel, and their samples
+value_typed : (t : Table) (row : Readings) → TypedRow (records_of t) row → (c : ℕ) → c < count kind.Channel (records_of t) → HasType (channel_type (records_of t) c) (row_value row c)
+value_typed t row typed c inside =
+    let v = typed c inside in
+    subst (λ w. HasType (channel_type (records_of t) c) w) (sym (ap (λ o. unwrap_or o (Bool false)) v.1)) v.2
+
+pub typed_samples : (t : Table) (rows : List Readings) → TypedRows (records_of t) rows → TypedSamples (records_of t) (samples rows) (length rows)
+typed_samples t rows typed tick c before inside = value_typed t (slice_index_or rows tick nothing) (typed tick before) c inside
 
 -- ---- what follows
 pub fates_counted : (fates : List Fate) → length fates ≡ length (all_taken fates) + length (all_struck fates)
@@ -51,9 +60,10 @@ module _ (t : Table) (h : History) (m : State) (due : List Call) (rules : m.due 
 
   abbrev pub follows : Follows t h m
   follows =
-      let one = one_set_of t x n k.typed in
+      let one = one_set_of t x n (typed_samples t h.rows k.typed) in
       let alarms = k.alarms one.values one.meets in
       record {
+        typed = k.typed;
         set = one;
         due = due;
         alarms = alarms;
@@ -105,17 +115,12 @@ module _ (rows : List Readings) (row : Readings) where
     same_rows : SameSamples (records_of t) (length rows) (samples rows) (samples more)
     same_rows tick c before inside = sym (same_before tick c before)
 
-    value_typed : TypedRow (records_of t) row → (c : ℕ) → c < count kind.Channel (records_of t) → HasType (channel_type (records_of t) c) (row_value row c)
-    value_typed typed c inside =
-        let v = typed c inside in
-        subst (λ w. HasType (channel_type (records_of t) c) w) (sym (ap (λ o. unwrap_or o (Bool false)) v.1)) v.2
-
-    typed_more : TypedSamples (records_of t) (samples rows) (length rows) → TypedRow (records_of t) row → TypedSamples (records_of t) (samples more) (length rows + 1)
-    typed_more typed typed_row tick c before inside = ⊎_elim
-        (λ below. subst (λ w. HasType (channel_type (records_of t) c) w) (sym (same_before tick c below)) (typed tick c below inside))
+    typed_more : TypedRows (records_of t) rows → TypedRow (records_of t) row → TypedRows (records_of t) more
+    typed_more typed typed_row tick before = ⊎_elim
+        (λ below. subst (TypedRow (records_of t)) (sym (get_or_append_left rows (row ∷ []) nothing tick below)) (typed tick below))
         (λ past.
-        let now : tick ≡ length rows = omega (arith, before, past) in
-        subst (λ w. HasType (channel_type (records_of t) c) w) (sym (ap (λ i. samples more i c) now ∙ newest_is c)) (value_typed typed_row c inside))
+        let now : tick ≡ length rows = omega (arith, before, past, longer) in
+        subst (TypedRow (records_of t)) (sym (ap (λ i. slice_index_or more i nothing) now ∙ last_row rows row)) typed_row)
         (cases_lt tick (length rows))
 
 -- ---- a sample
@@ -141,8 +146,11 @@ module _ (t : Table) (h : History) (row : Readings) (m : State) (old new : List 
   judged : Judges (rings_of t) (length h.rows) old new
   judged = subst (λ tick. Judges (rings_of t) tick old new) p.keeps.ticks j
 
+  rows_typed : TypedRows (records_of t) (more h.rows row)
+  rows_typed = typed_more h.rows row t p.keeps.typed p.row_typed
+
   typed_now : TypedSamples (records_of t) y (length h.rows + 1)
-  typed_now = typed_more h.rows row t p.keeps.typed p.row_typed
+  typed_now = subst (λ len. TypedSamples (records_of t) y len) (longer h.rows row) (typed_samples t (more h.rows row) rows_typed)
 
   holds_now : HoldsValues (rings_of t) y (length h.rows + 1) (length h.rows + 1) new
   holds_now = (lawful_of t).keeps.judges y (length h.rows) old new judged typed_now p.holds
@@ -174,7 +182,7 @@ module _ (t : Table) (h : History) (row : Readings) (m : State) (old new : List 
         keeps = record {
           opened = k.opened;
           ticks = omega (arith, k.ticks, long);
-          typed = subst (λ len. TypedSamples (records_of t) y len) (sym long) typed_now;
+          typed = rows_typed;
           alarms = subst (λ len. (v : Values) → Meets (records_of t) (lead_of t) y len v → called (records_of t) y v len ≡ settled_calls h ++ map (call_in t new (m.ticks + 1 - 1)) (true_rules t new m.ticks)) (sym long)
               (λ v meets. called_now v meets ∙ (λ i. settled_calls h ++ map (call_in t new (sym tick i)) (true_rules t new (sym k.ticks i))));
           taken = k.taken;
@@ -252,7 +260,7 @@ pub shows : (t : Table) (h : History) (m : State) (mem : List ℕ) (s : ℕ) (r 
 shows t h m mem s r stands inside index value =
     let x = samples h.rows in
     let n = length h.rows in
-    let one = one_set_of t x n stands.keeps.typed in
+    let one = one_set_of t x n (typed_samples t h.rows stands.keeps.typed) in
     let ticks = stands.keeps.ticks in
     let known : s < count kind.Stream (records_of t) = let counted = streams_counted t in omega (arith, inside, counted) in
     record {

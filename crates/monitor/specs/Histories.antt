@@ -8,7 +8,7 @@ use Rattle.sampling.specs.Rows.{Readings}
 use Rattle.tables.specs.declared.table.Table.{Table}
 use Rattle.tables.specs.Tables.{records_of, plan_of}
 use Rattle.monitor.specs.declared.states.Shown.{Shown}
-use Rattle.monitor.specs.Samples.{samples}
+use Rattle.monitor.specs.Samples.{samples, TypedRows}
 use Rattle.monitor.specs.States.{State}
 
 -- what became of an alarm that is no longer due
@@ -54,8 +54,9 @@ settled_call (struck a) = call_of a
 abbrev pub settled_calls : History → List Call
 settled_calls h = map settled_call h.settled
 
--- after a day so far: exactly one set of values meets the table's equations on the judged rows; by it, the alarms called are those settled, each once and in order, and then those due; and the monitor has the day's counts and the due alarms' rules
+-- after a day so far: each judged row has a value of its type at each declared channel, and exactly one set of values meets the table's equations on these samples; by it, the alarms called are those settled, each once and in order, and then those due; and the monitor has the day's counts and the due alarms' rules
 pub record Follows (t : Table) (h : History) (m : State) : Type 0 where
+  pub typed : TypedRows (records_of t) h.rows
   pub set : OneSet (records_of t) (samples h.rows) (length h.rows)
   pub due : List Call
   pub alarms : called (records_of t) (samples h.rows) set.values (length h.rows) ≡ settled_calls h ++ due

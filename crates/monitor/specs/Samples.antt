@@ -1,5 +1,5 @@
 -- The samples that rows give, and what a sample call does to its sampler. Assumes nothing.
-use Rattle.std.specs.Prelude.{◌≡◌, ℕ, ◌<◌, false, List, Some, None, Option, slice_index_or}
+use Rattle.std.specs.Prelude.{◌≡◌, ℕ, ◌<◌, false, List, length, Some, None, Option, slice_index_or}
 use Rattle.std.specs.Option.{unwrap_or}
 use Rattle.values.specs.declared.value.Value.{Value}
 use Rattle.values.specs.declared.value.Value.TheVariants.{Bool}
@@ -24,6 +24,10 @@ samples rows t c = row_value (slice_index_or rows t nothing) c
 -- a row has a value of its type at each declared channel
 abbrev pub TypedRow : List Entry → Readings → Type 0
 TypedRow rs row = (c : ℕ) → c < count Channel rs → (v : Value) × (row c ≡ Some v) × HasType (channel_type rs c) v
+
+-- each of several rows does
+abbrev pub TypedRows : List Entry → List Readings → Type 0
+TypedRows rs rows = (t : ℕ) → t < length rows → TypedRow rs (slice_index_or rows t nothing)
 
 -- one latch of a sampler: its next row, where it has one, is the present one; otherwise both rows stay, and the rest is what a refused latch leaves
 abbrev pub LatchedOnce : {S : Type 0} → Sampler S → Option Readings → S → S → Type 0

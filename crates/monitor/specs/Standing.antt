@@ -1,6 +1,6 @@
 -- How a monitor and its memory stand after a day so far. Assumes nothing.
 use Rattle.std.specs.Prelude.{◌≡◌, ℕ, ◌+◌, ◌-◌, List, [], ◌∷◌, ◌++◌, length, map}
-use Rattle.equations.specs.Equations.{TypedSamples, Meets}
+use Rattle.equations.specs.Equations.{Meets}
 use Rattle.equations.specs.Alarms.{Call, called}
 use Rattle.evaluation.specs.Meaning.{Values}
 use Rattle.rings.specs.Memory.{HoldsValues}
@@ -10,7 +10,7 @@ use Rattle.tables.specs.Tables.{records_of, plan_of}
 use Rattle.engine.specs.Rings.{rings_of, lead_of}
 use Rattle.engine.specs.Rules.{arguments_in}
 use Rattle.monitor.specs.Histories.{History, all_taken, all_struck, settled_calls, Follows}
-use Rattle.monitor.specs.Samples.{samples, TypedRow}
+use Rattle.monitor.specs.Samples.{samples, TypedRow, TypedRows}
 use Rattle.monitor.specs.States.{State}
 
 -- what a rule calls at a tick, by what the memory holds
@@ -25,7 +25,7 @@ due_in t mem m = map (call_in t mem (m.ticks - 1)) m.due
 pub record Matches (t : Table) (h : History) (m : State) (due : List Call) : Type 0 where
   pub opened : m.opened ≡ (plan_of t).counts
   pub ticks : m.ticks ≡ length h.rows
-  pub typed : TypedSamples (records_of t) (samples h.rows) (length h.rows)
+  pub typed : TypedRows (records_of t) h.rows
   pub alarms : (v : Values) → Meets (records_of t) (lead_of t) (samples h.rows) (length h.rows) v →
       called (records_of t) (samples h.rows) v (length h.rows) ≡ settled_calls h ++ due
   pub taken : m.taken ≡ length (all_taken h.settled)

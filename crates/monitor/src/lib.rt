@@ -3,7 +3,7 @@
 
 pub mod counts;
 pub mod judged;
-pub mod progress;
+mod progress;
 pub mod ready;
 mod row;
 pub mod sampled;
