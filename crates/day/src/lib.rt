@@ -5,3 +5,5 @@ pub mod calls;
 pub mod day;
 pub mod host;
 pub mod states;
+#[cfg(test)]
+mod tests;
