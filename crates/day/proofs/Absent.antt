@@ -1,5 +1,5 @@
 -- Calls that a state does not have. Assumes nothing.
-use Rattle.std.proofs.Common.{◌≡◌, ℕ, Bool, true, false, List, MatchBool, refl, sym, subst}
+use Rattle.std.proofs.Common.{◌≡◌, ℕ, false, List, MatchBool, refl, sym, subst}
 use Rattle.alarms.specs.declared.sink.Sink.{Ghosts as Sink}
 use Rattle.sampling.specs.declared.sampler.Sampler.{Ghosts as Sampler}
 use Rattle.tables.specs.declared.table.Table.{Table}

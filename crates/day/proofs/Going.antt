@@ -19,7 +19,7 @@ use Rattle.monitor.specs.declared.states.Shown.{Shown}
 use Rattle.monitor.specs.States.{State, with_tick, with_taken, with_struck, alarm_counts}
 use Rattle.monitor.specs.Samples.{row_value, Polls, LatchedOnce}
 use Rattle.monitor.specs.Delivering.{first_alarm, Delivers, OfferedOnce}
-use Rattle.monitor.specs.Refusals.{◌orelse◌, other_table, no_room, unfit, out_of_ticks, unsampled, none_due, no_place, still_due, no_stream, no_value}
+use Rattle.monitor.specs.Refusals.{◌orelse◌, other_table, unfit, out_of_ticks, unsampled, none_due, no_place, still_due, no_stream, no_value}
 use Rattle.monitor.specs.Histories.{History, with_row, with_fate, taken, struck, Follows, IsFirstDue, Shows}
 use Rattle.monitor.specs.Standing.{StandsAfter, PendsAfter, GoesOn}
 use Rattle.day.specs.declared.calls.Answer.{Answer}

@@ -1,5 +1,5 @@
 -- Calls one after another. Assumes nothing.
-use Rattle.std.proofs.Common.{◌≡◌, ℕ, ◌+◌, suc, Bool, true, false, if◌then◌else◌, List, [], ◌∷◌, ◌++◌, length, Some, None, Option, MatchBool, refl, sym, ap, ◌∙◌, subst, arith}
+use Rattle.std.proofs.Common.{◌≡◌, ℕ, ◌+◌, Bool, true, false, if◌then◌else◌, List, [], ◌∷◌, ◌++◌, length, Some, None, Option, MatchBool, refl, sym, ap, ◌∙◌, subst, arith}
 use Rattle.std.proofs.lemmas.List.{length-append}
 use Rattle.faults.specs.declared.fault.Fault.{Fault}
 use Rattle.faults.specs.Faults.{handed_on}
@@ -19,8 +19,7 @@ use Rattle.day.specs.declared.calls.Call.{Call}
 use Rattle.day.specs.declared.calls.Call.TheVariants.{Sample, Judge, Deliver, Strike, Close, Show}
 use Rattle.day.specs.declared.host.Host.{Ghosts as Host}
 use Rattle.day.specs.declared.states.Monitor.{Monitor}
-use Rattle.day.specs.declared.states.Monitor.TheVariants as kind
-use Rattle.day.specs.Calls.{state_in, has, Moment, moment, reason, Kept, Effect, Made, Did, StandsIn, MakesCall, fault_in}
+use Rattle.day.specs.Calls.{state_in, has, Moment, moment, reason, Kept, Effect, Made, StandsIn, MakesCall, fault_in}
 use Rattle.day.specs.Days.{Line, Turn, Turns, LeavesSink}
 
 -- ---- the alarms taken, with one settled more
