@@ -26,7 +26,8 @@ use Rattle.schedule.proofs.Taking.{each_ring}
 use Rattle.walks.specs.Walks.{Walk, weigh, reach, Falling, Lead, Ring}
 use Rattle.walks.proofs.Cut.{all_in}
 use Rattle.tables.specs.Reading.{checked}
-use Rattle.cases.specs.Cases.{three_streams, ThreeAhead, FourAhead}
+use Rattle.equations.specs.Examples.{m0_to_m2}
+use Rattle.cases.specs.Cases.{Checks, AcceptedWith, three_streams, TwoAhead, ThreeAhead, FourAhead}
 use Rattle.cases.proofs.Potentials.{along, falls, reaching, most, settled}
 use Rattle.cases.proofs.Answering.{acceptance, ahead_refusal}
 
@@ -60,86 +61,119 @@ three_falls : (d : ℕ) → Falling (graph (three_records d))
 unfolding openings
 three_falls d = falls (graph (three_records d)) (λ a. height d a.kind a.number) (omega (arith, ints), (omega (arith, ints), (omega (arith, ints), (omega (arith, ints), tt))))
 
--- ---- drop 3: leads of 3, 3 and 0, and four rings of 1 slot
-three_order : checked (three_streams 3) ≡ Ok (three_records 3)
-unfolding checked read_table entries entry_from many parse head shape
-three_order = refl
+no_channel : (s : ℕ) → ¬ (channel 0 ≡ stream s)
+no_channel s e = omega (arith, ap (λ (x : Id). kind_code x.kind) e)
+
+-- the length of the channel's ring is n, and of each stream's 1
+abbrev length_of_kind : ℕ → Kind → ℕ
+length_of_kind n Channel = n
+length_of_kind n Stream = 1
+length_of_kind n Rule = 0
 
 long_word : (n : ℕ) → n < 256 → HasType type.Word64 (value.Word64 n)
 long_word n h = (refl, record { low = omega (arith, ints); high = omega (arith, ints) })
 
-in_order : InOrder (three_records 3)
-in_order = record {
-  small = (
-    tt,
-    (
-      (omega arith, (long_word 0 (omega arith), (long_word 1 (omega arith), (long_word 2 (omega arith), tt))), (tt, (long_word 3 (omega arith)).1)),
-      ((omega arith, tt, (omega arith, omega arith)), ((omega arith, tt, omega arith), tt)),
-    ),
-  );
-  few = λ k. elim k as (λ k. count k (three_records 3) ≤ limit k) [ Channel ↦ omega arith | Stream ↦ omega arith | Rule ↦ omega arith ];
-  named = refl;
-}
+-- ---- a drop of 3 at most: the leads of m0 and m1 are the drop, that of m2 is 0, and no stream's ring has more than 1 slot
+abbrev leads : ℕ → ℕ → ℕ
+leads d zero = d
+leads d (suc zero) = d
+leads d (suc (suc n)) = 0
 
-abbrev leads : ℕ → ℕ
-leads zero = 3
-leads (suc zero) = 3
-leads (suc (suc n)) = 0
+module _ (d : ℕ) (low : d ≤ 3) where
+  in_order : InOrder (three_records d)
+  in_order = record {
+    small = (
+      tt,
+      (
+        (omega arith, (long_word 0 (omega arith), (long_word 1 (omega arith), (long_word 2 (omega arith), tt))), (tt, (long_word 3 (omega arith)).1)),
+        ((omega arith, tt, (omega arith, omega arith)), ((omega arith, tt, omega arith), tt)),
+      ),
+    );
+    few = λ k. elim k as (λ k. count k (three_records d) ≤ limit k) [ Channel ↦ omega arith | Stream ↦ omega arith | Rule ↦ omega arith ];
+    named = refl;
+  }
 
-up : AllByRecursion (λ r. reach (graph (three_records 3)) (lead_by leads) r ≤ℤ lead_by leads r.read) (references [] (three_records 3))
-unfolding openings
-up = (le_z_yes tt, (le_z_yes tt, (le_z_yes tt, (le_z_yes tt, tt))))
+  up : AllByRecursion (λ r. reach (graph (three_records d)) (lead_by (leads d)) r ≤ℤ lead_by (leads d) r.read) (references [] (three_records d))
+  unfolding openings
+  up = (omega (arith, ints), (omega (arith, ints), (omega (arith, ints), (omega (arith, ints), tt))))
 
-leads_are : (s : ℕ) → s < count Stream (three_records 3) → Lead (graph (three_records 3)) (stream s) (pos (leads s))
-unfolding openings
-leads_are zero h = record {
-  reached = (stream 2, from_m2 3 ∷ from_m1 ∷ [], (refl, inr (inr (inr (inl refl))), (refl, inr (inl refl), refl)), refl);
-  most = λ a w p. most (three_records 3) leads up a (stream 0) w p;
-}
-leads_are (suc zero) h = record {
-  reached = (stream 2, from_m2 3 ∷ [], (refl, inr (inr (inr (inl refl))), refl), refl);
-  most = λ a w p. most (three_records 3) leads up a (stream 1) w p;
-}
-leads_are (suc (suc zero)) h = record { reached = (stream 2, [], refl, refl); most = λ a w p. most (three_records 3) leads up a (stream 2) w p }
-leads_are (suc (suc (suc s))) h = absurd (omega arith)
+  pub leads_are : (s : ℕ) → s < count Stream (three_records d) → Lead (graph (three_records d)) (stream s) (pos (leads d s))
+  unfolding openings
+  leads_are zero h = record {
+    reached = (stream 2, from_m2 d ∷ from_m1 ∷ [], (refl, inr (inr (inr (inl refl))), (refl, inr (inl refl), refl)), omega (arith, ints));
+    most = λ a w p. most (three_records d) (leads d) up a (stream 0) w p;
+  }
+  leads_are (suc zero) h = record {
+    reached = (stream 2, from_m2 d ∷ [], (refl, inr (inr (inr (inl refl))), refl), omega (arith, ints));
+    most = λ a w p. most (three_records d) (leads d) up a (stream 1) w p;
+  }
+  leads_are (suc (suc zero)) h = record { reached = (stream 2, [], refl, refl); most = λ a w p. most (three_records d) (leads d) up a (stream 2) w p }
+  leads_are (suc (suc (suc s))) h = absurd (omega arith)
 
--- every reference to q reads its newest value: that from m0 reaches to 0, each other to 3
-ring_of_one : (q : Id) → (channel 0 ≡ q → lead_by leads q ≤ℤ pos 0) → lead_by leads q ≤ℤ pos 3 → Ring (graph (three_records 3)) (lead_by leads) q 1
-unfolding openings
-ring_of_one q low high = record {
-  least = lead_by leads q;
-  own = omega (arith, ints);
-  all = reaching (graph (three_records 3)) (lead_by leads) q (lead_by leads q) (low, (λ _. high, (λ _. high, (λ _. high, tt))));
-  met = inl refl;
-  is = omega (arith, ints);
-}
+  -- a ring of 1 slot: m0 reads q no further back than its newest value, and m1 and m2 reach as far
+  ring_of_one : (q : Id) → (channel 0 ≡ q → (lead_by (leads d) q +ℤ pos 3) ≤ℤ pos d) → lead_by (leads d) q ≤ℤ pos d → Ring (graph (three_records d)) (lead_by (leads d)) q 1
+  unfolding openings
+  ring_of_one q back ahead = record {
+    least = lead_by (leads d) q;
+    own = omega (arith, ints);
+    all = reaching (graph (three_records d)) (lead_by (leads d)) q (lead_by (leads d) q)
+        (λ e. omega (arith, ints, back e), (λ _. omega (arith, ints, ahead), (λ _. omega (arith, ints, ahead), (λ _. omega (arith, ints, ahead), tt))));
+    met = inl refl;
+    is = omega (arith, ints);
+  }
 
-no_channel : (s : ℕ) → ¬ (channel 0 ≡ stream s)
-no_channel s e = omega (arith, ap (λ (x : Id). kind_code x.kind) e)
+  rings_are : (s : ℕ) → s < count Stream (three_records d) → Ring (graph (three_records d)) (lead_by (leads d)) (stream s) 1
+  rings_are zero h = ring_of_one (stream 0) (λ e. absurd (no_channel 0 e)) (omega (arith, ints))
+  rings_are (suc zero) h = ring_of_one (stream 1) (λ e. absurd (no_channel 1 e)) (omega (arith, ints))
+  rings_are (suc (suc zero)) h = ring_of_one (stream 2) (λ e. absurd (no_channel 2 e)) (omega (arith, ints))
+  rings_are (suc (suc (suc s))) h = absurd (omega arith)
 
-channel_ring_is : (c : ℕ) → c < count Channel (three_records 3) → Ring (graph (three_records 3)) (lead_by leads) (channel c) 1
-channel_ring_is zero h = ring_of_one (channel 0) (λ _. le_z_yes tt) (le_z_yes tt)
-channel_ring_is (suc c) h = absurd (omega arith)
+  one_channel : (c n : ℕ) → c < count Channel (three_records d) → Ring (graph (three_records d)) (lead_by (leads d)) (channel 0) n →
+      Ring (graph (three_records d)) (lead_by (leads d)) (channel c) n
+  one_channel zero n h ring = ring
+  one_channel (suc c) n h ring = absurd (omega arith)
 
-rings_are : (s : ℕ) → s < count Stream (three_records 3) → Ring (graph (three_records 3)) (lead_by leads) (stream s) 1
-rings_are zero h = ring_of_one (stream 0) (λ e. absurd (no_channel 0 e)) (le_z_yes tt)
-rings_are (suc zero) h = ring_of_one (stream 1) (λ e. absurd (no_channel 1 e)) (le_z_yes tt)
-rings_are (suc (suc zero)) h = ring_of_one (stream 2) (λ _. le_z_yes tt) (le_z_yes tt)
-rings_are (suc (suc (suc s))) h = absurd (omega arith)
+  -- so the table is accepted with the slots of the channel's ring and 3 more
+  accepted : (n z : ℕ) → Ring (graph (three_records d)) (lead_by (leads d)) (channel 0) n → z ≡ n + 3 → n ≤ 2 →
+      checked (three_streams d) ≡ Ok (three_records d) → Checks (three_streams d) (AcceptedWith z)
+  accepted n z ring is small order =
+      let lengths : Id → ℕ = λ id. length_of_kind n id.kind in
+      let takes : Takes (three_records d) z = record {
+        lead = leads d;
+        length = lengths;
+        measured = record {
+          leads = leads_are;
+          lengths = each_ring (three_records d) (λ id. Ring (graph (three_records d)) (lead_by (leads d)) id (lengths id)) (λ c h. one_channel c n h ring) rings_are;
+        };
+        total = omega (arith, is);
+      } in
+      acceptance (three_streams d) (three_records d) order in_order (three_falls d) (settled (three_records d) (leads d) up) z takes (omega arith)
 
-takes : Takes (three_records 3) 4
-takes = record {
-  lead = leads;
-  length = λ id. 1;
-  measured = record {
-    leads = leads_are;
-    lengths = each_ring (three_records 3) (λ id. Ring (graph (three_records 3)) (lead_by leads) id 1) channel_ring_is rings_are;
-  };
-  total = refl;
-}
+-- ---- drop 3: m0 reads the channel's newest sample
+three_order : checked (three_streams 3) ≡ Ok (three_records 3)
+unfolding checked read_table entries entry_from many parse head shape
+three_order = refl
 
 pub three_ahead : ThreeAhead
-three_ahead = acceptance (three_streams 3) (three_records 3) three_order in_order (three_falls 3) (settled (three_records 3) leads up) 4 takes (omega arith)
+three_ahead = accepted 3 (omega arith) 1 4 (ring_of_one 3 (omega arith) (channel 0) (λ _. le_z_yes tt) (le_z_yes tt)) refl (omega arith) three_order
+
+-- ---- drop 2: m0 reads the sample before it
+pub two_order : checked (three_streams 2) ≡ Ok m0_to_m2
+unfolding checked read_table entries entry_from many parse head shape
+two_order = refl
+
+channel_ring_is : Ring (graph m0_to_m2) (lead_by (leads 2)) (channel 0) 2
+unfolding openings
+channel_ring_is = record {
+  least = negsuc 0;
+  own = le_z_yes tt;
+  all = reaching (graph m0_to_m2) (lead_by (leads 2)) (channel 0) (negsuc 0) (λ _. le_z_yes tt, (λ _. le_z_yes tt, (λ _. le_z_yes tt, (λ _. le_z_yes tt, tt))));
+  met = inr (from_m0, inl refl, refl, refl);
+  is = refl;
+}
+
+pub two_ahead : TwoAhead
+two_ahead = accepted 2 (omega arith) 2 5 channel_ring_is refl (omega arith) two_order
 
 -- ---- drop 4: a walk from m2 to the channel weighs 1
 four_order : checked (three_streams 4) ≡ Ok (three_records 4)

@@ -67,7 +67,11 @@ three_streams d =
     ∷ 0x00 ∷ 0x06 ∷ 0x02 ∷ 0x05 ∷ 0x00 ∷ 0x03 ∷ 0x01 ∷ d
     ∷ []
 
--- with drop 3 it is accepted
+-- with drop 2 it is accepted
+abbrev pub TwoAhead : Type 0
+TwoAhead = Checks (three_streams 2) (AcceptedWith 5)
+
+-- with drop 3 it is accepted too
 abbrev pub ThreeAhead : Type 0
 ThreeAhead = Checks (three_streams 3) (AcceptedWith 4)
 

@@ -2,7 +2,7 @@
 #![tactic(auto)]
 
 ghost use Rattle.std.specs.Prelude.{◌≡◌, IfOk};
-ghost use Rattle.cases.specs.Cases.{three_streams, one_stream, TwoStreams, ThreeAhead, FourAhead, OneAhead, NoneAhead, Says, Verdict, AsWorked};
+ghost use Rattle.cases.specs.Cases.{three_streams, one_stream, TwoStreams, TwoAhead, ThreeAhead, FourAhead, OneAhead, NoneAhead, Says, Verdict, AsWorked};
 
 mod bridging;
 
@@ -105,6 +105,7 @@ fn work_out(alloc: Global) -> Result<WorkedCases, AllocError>
 pub fn worked_cases(alloc: Global) -> Result<WorkedCases, AllocError>
     ensures answers { IfOk result AsWorked }
     ensures two { TwoStreams }
+    ensures ahead { TwoAhead }
     ensures three { ThreeAhead }
     ensures four { FourAhead }
     ensures one { OneAhead }
