@@ -4,3 +4,5 @@ mod One
 mod Two
 mod Three
 mod Judging
+mod Turns
+mod Shown

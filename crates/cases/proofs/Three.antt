@@ -70,7 +70,7 @@ length_of_kind n Channel = n
 length_of_kind n Stream = 1
 length_of_kind n Rule = 0
 
-long_word : (n : ℕ) → n < 256 → HasType type.Word64 (value.Word64 n)
+pub long_word : (n : ℕ) → n < 256 → HasType type.Word64 (value.Word64 n)
 long_word n h = (refl, record { low = omega (arith, ints); high = omega (arith, ints) })
 
 -- ---- a drop of 3 at most: the leads of m0 and m1 are the drop, that of m2 is 0, and no stream's ring has more than 1 slot

@@ -16,6 +16,7 @@ use Rattle.faults.specs.declared.stop.Stop.TheVariants.{Refused, Memory}
 use Rattle.tables.specs.declared.table.Table.{Table}
 use Rattle.tables.specs.Reading.{checked}
 use Rattle.tables.specs.Checking.{Answers}
+use Rattle.cases.specs.Showing.{m2_repeating, m2_ahead}
 use Rattle.cases.specs.declared.WorkedCases.{WorkedCases}
 
 -- whatever the check answers of the bytes, with a sheet that is long enough and where memory does not fail, is P
@@ -116,6 +117,8 @@ pub record AsWorked (w : WorkedCases) : Type 0 where
   pub four : w.four ≡ Err (ChannelWalk 3)
   pub one : w.one ≡ Err (ClosedWalk 1)
   pub none : w.none ≡ Ok 2
+  pub repeating : w.repeating ≡ m2_repeating
+  pub ahead : w.ahead ≡ m2_ahead
   pub bridged : w.bridged ≡ Some (value.Word8 5) ∷ Some (value.Word8 5) ∷ Some (value.Word8 5) ∷ None ∷ []
   pub sum : w.edges.sum ≡ value.Word8 0
   pub fraction : w.edges.fraction ≡ value.Int8 (negsuc 2)

@@ -1,12 +1,14 @@
-// Worked cases: small tables and what the check answers of them, a hold over a few rows, and operators at the ends of ranges; with proofs.
+// Worked cases: small tables, what the check answers of them and what two of them show, a hold over a few rows, and operators at the ends of ranges; with proofs.
 #![tactic(auto)]
 
 ghost use Rattle.std.specs.Prelude.{◌≡◌, IfOk};
 ghost use Rattle.cases.specs.Cases.{three_streams, one_stream, TwoStreams, TwoAhead, ThreeAhead, FourAhead, OneAhead, NoneAhead, Says, Verdict, AsWorked};
 
 mod bridging;
+mod showing;
 
 use crate::bridging::bridge_five;
+use crate::showing::{show_three, show_two};
 use faults::cause::Cause;
 use operators::edges::{EdgeCases, edge_cases};
 use schedule::plan::Counts;
@@ -75,13 +77,17 @@ pub struct WorkedCases {
     pub one: Result<usize, Cause>,
     // Of the stream that reads itself, with drop 0.
     pub none: Result<usize, Cause>,
+    // What m2 of the two streams has at indexes 0 to 3: its newest index and value after each tick.
+    pub repeating: [Option<(u64, Value)>; 4],
+    // What m2 of the three streams, with drop 2, has at indexes 0 and 1, where the samples are 10 and 20.
+    pub ahead: [Option<(u64, Value)>; 2],
     // What a hold that bridges two latches shows of 5 and three latches with nothing.
     pub bridged: [Option<Value>; 4],
     // What operators make of operands at the ends of their ranges.
     pub edges: EdgeCases,
 }
 
-// Checks each of the worked tables, and works out the other cases.
+// Checks each of the worked tables, shows what two of them do, and works out the other cases.
 fn work_out(alloc: Global) -> Result<WorkedCases, AllocError>
     ensures { IfOk result AsWorked }
 {
@@ -96,6 +102,8 @@ fn work_out(alloc: Global) -> Result<WorkedCases, AllocError>
         four,
         one,
         none,
+        repeating: show_two(alloc)?,
+        ahead: show_three(alloc)?,
         bridged: bridge_five(),
         edges: edge_cases(),
     })
@@ -105,7 +113,7 @@ fn work_out(alloc: Global) -> Result<WorkedCases, AllocError>
 pub fn worked_cases(alloc: Global) -> Result<WorkedCases, AllocError>
     ensures answers { IfOk result AsWorked }
     ensures two { TwoStreams }
-    ensures ahead { TwoAhead }
+    ensures two_ahead { TwoAhead }
     ensures three { ThreeAhead }
     ensures four { FourAhead }
     ensures one { OneAhead }

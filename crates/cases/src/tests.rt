@@ -1,9 +1,10 @@
-// What a check leaves of the table and the sheet, on examples.
-use crate::{TWO_STREAMS, one_stream, three_streams};
+// What a check leaves of the table and the sheet, and what streams show, on examples.
+use crate::{TWO_STREAMS, one_stream, three_streams, worked_cases};
 use std::test::Fail;
 use tables::line::{BLANK_SHEET, ask};
 use tables::rejection::Rejection;
 use tables::table::Table;
+use values::value::Value;
 use walks::edge::SheetEntry;
 
 // An entry that no walk fills.
@@ -82,5 +83,19 @@ fn keeps_what_it_accepted(rt: HostRuntime) -> Result<(), Fail> {
         table.bytes() == TWO_STREAMS.as_slice(),
         "a refusal keeps the table"
     );
+    Ok(())
+}
+
+#[test]
+fn shows_m2_of_the_worked_tables(rt: HostRuntime) -> Result<(), Fail> {
+    let cases = worked_cases(rt.alloc())?;
+    for (index, value) in [1u8, 2, 1, 2].iter().enumerate() {
+        assert_eq!(rt;
+            cases.repeating[index],
+            Some((index as u64, Value::Word8(*value)))
+        );
+    }
+    assert_eq!(rt; cases.ahead[0], Some((0, Value::Word64(4))));
+    assert_eq!(rt; cases.ahead[1], Some((1, Value::Word64(26))));
     Ok(())
 }
