@@ -16,7 +16,7 @@ use tables::table::Table;
 use traces::trace::Trace;
 
 // No channel, no stream, and a rule whose guard is the constant true; and the same with false.
-const ALWAYS: [u8; 8] = [1, 0, 5, 3, 0, 1, 1, 1];
+pub(crate) const ALWAYS: [u8; 8] = [1, 0, 5, 3, 0, 1, 1, 1];
 
 const NEVER: [u8; 8] = [1, 0, 5, 3, 0, 1, 1, 0];
 
@@ -24,7 +24,7 @@ const NEVER: [u8; 8] = [1, 0, 5, 3, 0, 1, 1, 0];
 const EMPTY_ROW: [u8; 3] = [1, 0, 0];
 
 // The table of these bytes.
-fn table_of(alloc: Global, bytes: &[u8]) -> Result<Table, Fail> {
+pub(crate) fn table_of(alloc: Global, bytes: &[u8]) -> Result<Table, Fail> {
     let mut table = Table::new(alloc)?;
     let mut sheet = BLANK_SHEET;
     match table.check(alloc, bytes, &mut sheet) {
@@ -51,7 +51,7 @@ fn judge_next<S: Sampler>(
 }
 
 // Makes a judged monitor ready, and says how many alarms that were still due it struck.
-fn strike_out(mut judged: Judged) -> (Ready, u32) {
+pub(crate) fn strike_out(mut judged: Judged) -> (Ready, u32) {
     let mut struck: u32 = 0;
     loop {
         match judged.close() {
