@@ -1,5 +1,5 @@
 -- What m2 shows of the two streams and of the three. Assumes nothing.
-use Rattle.std.proofs.Common.{◌≡◌, ℕ, zero, suc, false, ◌+◌, ◌<◌, List, [], ◌∷◌, replicate, Option, Some, refl, sym, ap, subst, ◌∙◌, arith}
+use Rattle.std.proofs.Common.{◌≡◌, ℕ, zero, suc, false, ◌<◌, List, [], ◌∷◌, replicate, Option, Some, refl, sym, ap, subst, ◌∙◌, arith}
 use Rattle.values.specs.declared.value.Value.{Value}
 use Rattle.values.specs.declared.value.Value.TheVariants.{Bool, Word8, Word64}
 use Rattle.syntax.specs.declared.record.Kind.TheVariants.{Channel}

@@ -1,5 +1,5 @@
 -- What a stream without a lead shows of an accepted table, tick by tick, from its one set of values. Assumes nothing.
-use Rattle.std.proofs.Common.{◌≡◌, ℕ, ◌+◌, ◌<◌, ◌≤◌, List, [], ◌∷◌, length, pos, Option, Some, None, Ok, Err, Result, refl, sym, ap, subst, ◌∙◌, arith}
+use Rattle.std.proofs.Common.{◌≡◌, ℕ, ◌+◌, ◌<◌, List, length, pos, Option, Some, None, sym, ap, subst, ◌∙◌, arith}
 use Rattle.std.proofs.Math.Logic.{∥∥₁_elim}
 use Rattle.std.proofs.Math.Nat.{ℕ_set}
 use Rattle.std.specs.Prelude.{MatchOption, IfSome}
@@ -10,14 +10,11 @@ use Rattle.syntax.specs.Entries.{Entry, count}
 use Rattle.evaluation.specs.Meaning.{Samples}
 use Rattle.equations.specs.Equations.{TypedSamples, OneSet}
 use Rattle.rings.specs.Memory.{values_in, HoldsValues}
-use Rattle.faults.specs.declared.stop.Stop.TheVariants.{Refused, Memory}
-use Rattle.schedule.specs.declared.plan.Counts.{Counts}
 use Rattle.schedule.specs.Graphs.{graph, stream}
 use Rattle.walks.specs.Walks.{Lead}
 use Rattle.walks.proofs.Unique.{lead_one}
 use Rattle.tables.specs.declared.table.Table.{Table}
 use Rattle.tables.specs.Checking.{Accepting}
-use Rattle.tables.specs.Rejecting.{Rejection}
 use Rattle.tables.specs.Tables.{records_of, streams_of}
 use Rattle.engine.specs.Rings.{rings_of, lead_of}
 use Rattle.engine.specs.Laws.{ShowsValue}

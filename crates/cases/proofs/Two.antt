@@ -1,12 +1,12 @@
 -- Two streams that read each other: m3 = [0, 1, 2] ++ m2 and m2 = drop 1 m3. Assumes nothing.
-use Rattle.std.proofs.Common.{◌≡◌, ℕ, zero, suc, ◌<◌, ◌≤◌, List, [], ◌∷◌, pos, negsuc, ◌≤ℤ◌, Ok, refl, ap, subst, inl, inr, arith}
+use Rattle.std.proofs.Common.{◌≡◌, ℕ, zero, suc, ◌<◌, ◌≤◌, [], ◌∷◌, pos, negsuc, ◌≤ℤ◌, Ok, refl, ap, subst, inl, inr, arith}
 use lib.Signed.{le_z_yes}
 use Rattle.std.specs.List.{AllByRecursion}
 use Rattle.std.proofs.lemmas.Int.{ints}
 use Rattle.values.specs.declared.types.«Type».TheVariants as type
 use Rattle.values.specs.declared.value.Value.TheVariants as value
 use Rattle.syntax.specs.declared.record.Kind.TheVariants.{Channel, Stream, Rule}
-use Rattle.syntax.specs.Entries.{Entry, count, limit}
+use Rattle.syntax.specs.Entries.{count, limit}
 use Rattle.syntax.specs.Heads.{head}
 use Rattle.syntax.specs.Parsing.{parse}
 use Rattle.syntax.specs.Reading.{read_table, entries, entry_from, many}

@@ -1,4 +1,4 @@
-use Rattle.std.proofs.Common.{◌≡◌, ◌&&◌, true, Option, None, cond, unwrap_or, is_ok, sym, ap, ◌∙◌, arith}
+use Rattle.std.proofs.Common.{◌&&◌, true, Option, None, cond, unwrap_or, is_ok, sym, ap, ◌∙◌, arith}
 use Rattle.std.specs.Result.{result_ok}
 use Rattle.sampling.specs.Holds.{after, record_at}
 use Rattle.sampling.specs.Rows.{Readings, nothing}
