@@ -1,5 +1,5 @@
 -- Heights: what climbs along the edges make of the nodes, by steep weights. Assumes nothing.
-use Rattle.std.specs.Prelude.{◌≡◌, ℕ, zero, suc, ◌+◌, ◌-◌, ◌*◌, ◌≤◌, max, List, replicate, ℤ, pos, ◌-ℤ◌, [], fold, slice_index, slice_index_or, slice_set}
+use Rattle.std.specs.Prelude.{◌≡◌, ℕ, zero, suc, ◌+◌, ◌-◌, ◌*◌, ◌≤◌, max, List, replicate, ℤ, pos, ◌-ℤ◌, [], fold, slice_index, slice_index_or, slice_set, Option, MatchOption, ◌≢◌}
 use Rattle.walks.specs.declared.edge.Edge.{Edge}
 use Rattle.walks.specs.Walks.{Graph}
 
@@ -38,6 +38,10 @@ pub record Resting (es : List Edge) (h : List ℕ) : Type 0 where
   pub few : climbs ≤ 33
   pub made : h ≡ heights es climbs
   pub still : climbed es h ≡ h
+
+-- heights at rest, or that even the last climb changes them
+abbrev pub Rests : List Edge → Option (List ℕ) → Type 0
+Rests es r = MatchOption r (climbed es (heights es 33) ≢ heights es 33) (λ h. Resting es h)
 
 -- a row by the reader, for each node read how high the reader's edges reach from 900000
 abbrev pub steeper : List (List ℕ) → Edge → List (List ℕ)

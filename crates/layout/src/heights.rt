@@ -1,12 +1,18 @@
 // Heights: for each node the greatest steep weight of any walk that ends there, where there is one.
-ghost use Rattle.std.specs.Prelude.{◌≡◌, ℕ, ◌≤◌, List, [], slice_index_or, MatchOption, ◌≢◌};
+ghost use Rattle.std.specs.Prelude.{◌≡◌, ℕ, ◌≤◌, List, [], slice_index_or};
 ghost use Rattle.std.specs.List.{AllByRecursion};
 ghost use Rattle.walks.specs.declared.edge.Edge.{Edge};
 ghost use Rattle.walks.specs.Edges.{Bounded};
-ghost use Rattle.layout.specs.Climbs.{Low, height_over, topped, climbed, heights, Resting, slopes, Raised};
+ghost use Rattle.layout.specs.Climbs.{Low, height_over, topped, climbed, heights, Rests, slopes, Raised};
 
 use walks::edge::Edge;
 use walks::graph::{Graph, NODES};
+
+// A walk that comes nowhere twice has at most 33 edges, so one climb more tells.
+const MOST_CLIMBS: u32 = 34;
+
+// From so many edges on the rows cost less than the climbs that they stand for.
+const MANY_EDGES: usize = 512;
 
 // No height is above it, and no edge falls from it to 0, so 0 can stand for no edge.
 const BASE: u32 = 900_000;
@@ -87,20 +93,38 @@ fn climb_on(
     to
 }
 
-// Heights that a climb leaves as they are; none where even the last climb changes them.
+// Heights that a climb leaves as they are, each climb along every edge; none where even the last changes them.
 #[tactic(auto, unfolding(crate::specs::Climbs::heights))]
-pub(crate) fn resting_heights(graph: &Graph) -> Option<[u32; NODES]>
-    ensures { MatchOption result (climbed graph.now.edges.now (heights graph.now.edges.now 33) ≢ heights graph.now.edges.now 33) (λ h. Resting graph.now.edges.now h) }
+fn rest_by_edges(graph: &Graph) -> Option<[u32; NODES]>
+    ensures { Rests graph.now.edges.now result }
 {
-    let mut before = [0; NODES];
+    let mut row = [0; NODES];
+    for _ in 0..MOST_CLIMBS {
+        let next = climb(graph, &row);
+        if next == row {
+            return Some(row);
+        }
+        row = next;
+    }
+    None
+}
+
+// The same by rows, from the third climb on: they cost as much as a climb, and most graphs are at rest before.
+#[tactic(auto, unfolding(crate::specs::Climbs::heights))]
+fn rest_by_rows(graph: &Graph) -> Option<[u32; NODES]>
+    ensures { Rests graph.now.edges.now result }
+{
+    let zeros = [0; NODES];
+    let mut before = climb(graph, &zeros);
+    if before == zeros {
+        return Some(before);
+    }
     let mut row = climb(graph, &before);
-    // At rest already: no need of rows, which cost more than this climb and pay from the next one on.
     if row == before {
         return Some(row);
     }
     let rows = slopes(graph);
-    // A walk that comes nowhere twice has at most 33 edges, so one climb more tells.
-    for _ in 1..34u32 {
+    for _ in 2..MOST_CLIMBS {
         let next = climb_on(&rows, &before, &row);
         if next == row {
             return Some(row);
@@ -109,4 +133,15 @@ pub(crate) fn resting_heights(graph: &Graph) -> Option<[u32; NODES]>
         row = next;
     }
     None
+}
+
+// Heights that a climb leaves as they are; none where even the last climb changes them.
+pub(crate) fn resting_heights(graph: &Graph) -> Option<[u32; NODES]>
+    ensures { Rests graph.now.edges.now result }
+{
+    if graph.edges.len() < MANY_EDGES {
+        rest_by_edges(graph)
+    } else {
+        rest_by_rows(graph)
+    }
 }

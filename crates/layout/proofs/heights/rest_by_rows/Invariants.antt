@@ -1,6 +1,6 @@
 use Rattle.std.proofs.Common.{◌≡◌, ◌-◌}
 use Rattle.layout.specs.Climbs.{climbed, heights}
-use Rattle.layout.proofs.heights.resting_heights.Given as goal
+use Rattle.layout.proofs.heights.rest_by_rows.Given as goal
 
 abbrev pub invariant-loop : goal.invariant-loop
 invariant-loop l =

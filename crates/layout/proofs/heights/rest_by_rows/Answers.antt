@@ -4,10 +4,21 @@ use Rattle.walks.proofs.Through.{graph_bounded}
 use Rattle.layout.specs.Climbs.{Low, climbed, heights}
 use Rattle.layout.proofs.Climbs.{zeros_low, heights_low, heights_more}
 use Rattle.layout.proofs.Slopes.{slopes_low}
-use Rattle.layout.proofs.heights.resting_heights.Goals as goal
+use Rattle.layout.proofs.heights.rest_by_rows.Goals as goal
+
+pub climb-before-requires : goal.climb-before-requires
+climb-before-requires c = zeros_low
 
 pub climb-row-requires : goal.climb-row-requires
-climb-row-requires c = zeros_low
+unfolding heights
+climb-row-requires c =
+    subst (Low 900000) (sym c.climb-before.ensures) (heights_low c.args.graph.now.edges.now (graph_bounded c.args.graph.now) 1 (omega arith))
+
+pub returns-then-eq-2 : goal.returns-then-eq-2
+unfolding heights
+returns-then-eq-2 c =
+    let same : c.climb-row.result ≡ c.climb-before.result = search rules in
+    record { climbs = 1; few = omega arith; made = same ∙ c.climb-before.ensures; still = ap (climbed c.args.graph.now.edges.now) same ∙ sym c.climb-row.ensures }
 
 pub climb_on-next-requires : goal.climb_on-next-requires
 climb_on-next-requires c =
@@ -16,8 +27,8 @@ climb_on-next-requires c =
     let bounded = graph_bounded c.args.graph.now in
     record { low = (subst (Low 900000) (sym row) (heights_low es bounded c.loop.counter (omega arith)), slopes_low es bounded c.slopes-rows.result c.slopes-rows.ensures) }
 
-pub returns-then-eq-2 : goal.returns-then-eq-2
-returns-then-eq-2 c =
+pub returns-then-eq-3 : goal.returns-then-eq-3
+returns-then-eq-3 c =
     let (last, row, _) = c.loop.invariant in
     let es = c.args.graph.now.edges.now in
     let next = c.climb_on-next.ensures es (graph_bounded c.args.graph.now) c.slopes-rows.ensures last in
