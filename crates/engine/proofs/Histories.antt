@@ -3,6 +3,7 @@ use Rattle.std.proofs.Common.{◌≡◌, ℕ, ◌+◌, ◌<◌, List, length, ma
 use Rattle.std.proofs.Math.Logic.{∥∥₁_elim, ∥∥₁_prop}
 use Rattle.values.specs.declared.value.Value.{Value}
 use Rattle.evaluation.specs.Meaning.{Samples}
+use Rattle.lists.specs.Lists.{items}
 use Rattle.equations.specs.Equations.{Leads, TypedSamples, OneSet}
 use Rattle.equations.specs.Alarms.{Call}
 use Rattle.equations.specs.Laws.{RestsOnThePast}
@@ -23,8 +24,8 @@ use Rattle.engine.proofs.Props.{sound_prop, lawful_prop}
 use Rattle.engine.proofs.Known.{well_planned, most, streams_counted, rules_counted}
 
 module _ (t : Table) where
-  pub sound_of : Sound (records_of t) (lead_of t) (place (plan_of t).order.items) (greatest_lead_in (streams_of t))
-  sound_of = ∥∥₁_elim t.accepted (sound_prop (records_of t) (lead_of t) (place (plan_of t).order.items) (greatest_lead_in (streams_of t)))
+  pub sound_of : Sound (records_of t) (lead_of t) (place (items (plan_of t).order)) (greatest_lead_in (streams_of t))
+  sound_of = ∥∥₁_elim t.accepted (sound_prop (records_of t) (lead_of t) (place (items (plan_of t).order)) (greatest_lead_in (streams_of t)))
       (λ a. sound (records_of t) (plan_of t) (well_planned t a) (greatest_lead_in (streams_of t)) (most t a))
 
   pub leads_of : Leads (records_of t) (lead_of t)
@@ -32,10 +33,10 @@ module _ (t : Table) where
 
   -- the one set, whose leads are those of the rings
   abbrev pub one_set_of : (x : Samples) (n : ℕ) → TypedSamples (records_of t) x n → OneSet (records_of t) x n
-  one_set_of x n typed = one_set (records_of t) (lead_of t) (place (plan_of t).order.items) (greatest_lead_in (streams_of t)) sound_of leads_of x n typed
+  one_set_of x n typed = one_set (records_of t) (lead_of t) (place (items (plan_of t).order)) (greatest_lead_in (streams_of t)) sound_of leads_of x n typed
 
   pub rests_on_the_past : RestsOnThePast (records_of t)
-  rests_on_the_past = past_of (records_of t) (lead_of t) (place (plan_of t).order.items) (greatest_lead_in (streams_of t)) sound_of leads_of
+  rests_on_the_past = past_of (records_of t) (lead_of t) (place (items (plan_of t).order)) (greatest_lead_in (streams_of t)) sound_of leads_of
 
   pub lawful_of : Lawful (rings_of t)
   lawful_of = ∥∥₁_elim t.accepted (lawful_prop (rings_of t)) (λ a. laws (records_of t) (plan_of t) (well_planned t a))

@@ -25,6 +25,7 @@ use Rattle.names.specs.declared.uses.Name.{Name}
 use Rattle.names.specs.declared.uses.Name.TheVariants as name
 use Rattle.names.specs.Uses.{uses}
 use Rattle.references.specs.declared.reference.Id.{Id}
+use Rattle.lists.specs.Lists.{items}
 use Rattle.schedule.specs.declared.plan.Ring.{Ring}
 use Rattle.schedule.specs.Graphs.{channel, stream}
 use Rattle.schedule.specs.Plans.{HasRing, ring_of, lead_in}
@@ -131,19 +132,19 @@ module _ (t : Table) (a : IsAccepted t) where
       let x = first (streams_of t) s h in
       omega (arith, most_at (streams_of t) 0 s x h, ap (λ (r : Ring). r.lead) (ring_of_stream t a s x h))
 
-  pub fits : Fitting (rings_of t) (plan_of t).order.items (place (plan_of t).order.items) (greatest_lead_in (streams_of t))
+  pub fits : Fitting (rings_of t) (items (plan_of t).order) (place (items (plan_of t).order)) (greatest_lead_in (streams_of t))
   fits = fitting (records_of t) (plan_of t) well_planned (greatest_lead_in (streams_of t)) most
 
   lies : (id : Id) → HasRing (records_of t) id → Lies t (ring_of (plan_of t) id)
   lies id h = record { some = fits.some id h; within = fits.within id h; small = a.small }
 
-  own_by : (lead opening rank : ℕ) (e : Exp) → Bounded 12 e → AllFit (rings_of t) (place (plan_of t).order.items) lead opening rank e → IsOwn t e
+  own_by : (lead opening rank : ℕ) (e : Exp) → Bounded 12 e → AllFit (rings_of t) (place (items (plan_of t).order)) lead opening rank e → IsOwn t e
   own_by lead opening rank e b fit = record {
     shallow = shallow 12 e b;
     names = All-weaker _ _ (λ u. known u.name) (uses e) fit;
   }
     where
-      known : (n : Name) → Reads (records_of t) (lead_in (plan_of t)) (place (plan_of t).order.items) lead opening rank n × Keeps (rings_of t) lead opening n → Has t n
+      known : (n : Name) → Reads (records_of t) (lead_in (plan_of t)) (place (items (plan_of t).order)) lead opening rank n × Keeps (rings_of t) lead opening n → Has t n
       known (name.Channel c) r = omega (arith, r.0.known, channel_count t a)
       known (name.Stream q d) r = omega (arith, r.0.known, stream_count t a)
 
@@ -165,7 +166,7 @@ module _ (t : Table) (a : IsAccepted t) where
 
     own_body : IsOwn t (exp x.body)
     own_body = subst (λ (q : Equation). IsOwn t q.body) (sym is_equation)
-        (own_by (lead_in (plan_of t) s) (opening_of (records_of t) s) (place (plan_of t).order.items s) (equation_of (records_of t) s).body
+        (own_by (lead_in (plan_of t) s) (opening_of (records_of t) s) (place (items (plan_of t).order) s) (equation_of (records_of t) s).body
         (of_stream Small (records_of t) a.in_order.small s inside).2 (fits.reads s inside))
 
     values_same : (mem : List ℕ) (i : ℕ) → wrap x.ty (pos (get_or mem (x.ring.base + i % x.ring.length) 0)) ≡ values_in (rings_of t) mem s i
@@ -197,8 +198,8 @@ module _ (t : Table) (a : IsAccepted t) where
     small_rule : Small (rule_record (rule_of (records_of t) k))
     small_rule = All-get_or (λ (r : alarm.Rule). Small (rule_record r)) (rules (records_of t)) k no_rule inside_rules (small_rules (records_of t) a.in_order.small)
 
-    fits_rule : RuleFits (rings_of t) (place (plan_of t).order.items) (rule_of (records_of t) k)
-    fits_rule = All-get_or (RuleFits (rings_of t) (place (plan_of t).order.items)) (rules (records_of t)) k no_rule inside_rules fits.rules
+    fits_rule : RuleFits (rings_of t) (place (items (plan_of t).order)) (rule_of (records_of t) k)
+    fits_rule = All-get_or (RuleFits (rings_of t) (place (items (plan_of t).order))) (rules (records_of t)) k no_rule inside_rules fits.rules
 
     own_guard : IsOwn t (exp x.guard)
     own_guard = subst (λ (r : alarm.Rule). IsOwn t r.guard) (sym is_rule)
@@ -208,7 +209,7 @@ module _ (t : Table) (a : IsAccepted t) where
     own_arguments = subst (λ (r : alarm.Rule). AllByRecursion (IsOwn t) r.arguments) (sym is_rule)
         (all_own (rule_of (records_of t) k).arguments small_rule.2 fits_rule.arguments)
       where
-        all_own : (es : List Exp) → AllByRecursion (Bounded 12) es → AllByRecursion (AllFit (rings_of t) (place (plan_of t).order.items) 0 0 (count kind.Stream (records_of t))) es → AllByRecursion (IsOwn t) es
+        all_own : (es : List Exp) → AllByRecursion (Bounded 12) es → AllByRecursion (AllFit (rings_of t) (place (items (plan_of t).order)) 0 0 (count kind.Stream (records_of t))) es → AllByRecursion (IsOwn t) es
         all_own [] b fit = tt
         all_own (y ∷ es) b fit = (own_by 0 0 (count kind.Stream (records_of t)) y b.0 fit.0, all_own es b.1 fit.1)
 
@@ -289,10 +290,10 @@ module _ (t : Table) where
     its_arguments read = ∥∥₁_elim t.accepted (values_set _ _) (λ a. ap (λ (r : alarm.Rule). map read r.arguments) (is_rule t a k x l e))
 
   -- ---- the order of evaluation, and the calls
-  pub order_long : length (plan_of t).order.items ≡ count kind.Stream (records_of t)
+  pub order_long : length (items (plan_of t).order) ≡ count kind.Stream (records_of t)
   order_long = ∥∥₁_elim t.accepted (ℕ_set _ _) (λ a. a.planned.order.each.long)
 
-  pub order_within : (k : ℕ) → k < length (plan_of t).order.items → get_or (plan_of t).order.items k 0 < length (streams_of t)
+  pub order_within : (k : ℕ) → k < length (items (plan_of t).order) → get_or (items (plan_of t).order) k 0 < length (streams_of t)
   order_within k l = ∥∥₁_elim t.accepted le_prop (λ a. omega (arith, a.planned.order.each.within k (omega (arith, l, a.planned.order.each.long)), stream_count t a))
 
   pub few_channels : length (channels_of t) ≤ 16
@@ -311,25 +312,25 @@ module _ (t : Table) where
     pub sampled : (n : ℕ) (row : ℕ → Value) (new : List ℕ) → new ≡ stored_samples (rings_of t) n row mem (length (channels_of t)) → StoresSamples (rings_of t) n row mem new
     sampled n row new e = ∥∥₁_elim t.accepted (stores_prop (rings_of t) n row mem new) (λ a.
         subst (StoresSamples (rings_of t) n row mem) (sym (e ∙ ap (stored_samples (rings_of t) n row mem) (channel_count t a)))
-        (samples_stored (rings_of t) (plan_of t).order.items (place (plan_of t).order.items) (greatest_lead_in (streams_of t)) (fits t a) n row mem room))
+        (samples_stored (rings_of t) (items (plan_of t).order) (place (items (plan_of t).order)) (greatest_lead_in (streams_of t)) (fits t a) n row mem room))
 
     pub judged : (n top : ℕ) (new : List ℕ) → top ≡ greatest_lead_in (streams_of t) →
-        new ≡ worked_first (rings_of t) (plan_of t).order.items top (n + top) mem (count kind.Stream (records_of t)) → Judges (rings_of t) n mem new
+        new ≡ worked_first (rings_of t) (items (plan_of t).order) top (n + top) mem (count kind.Stream (records_of t)) → Judges (rings_of t) n mem new
     judged n top new is e = ∥∥₁_elim t.accepted (judges_prop (rings_of t) n mem new) (λ a.
-        subst (Judges (rings_of t) n mem) (sym (e ∙ ap (λ (k : ℕ). worked_first (rings_of t) (plan_of t).order.items k (n + k) mem (count kind.Stream (records_of t))) is))
-        (worked_judges (rings_of t) (plan_of t).order.items (place (plan_of t).order.items) (greatest_lead_in (streams_of t)) (fits t a) n mem room))
+        subst (Judges (rings_of t) n mem) (sym (e ∙ ap (λ (k : ℕ). worked_first (rings_of t) (items (plan_of t).order) k (n + k) mem (count kind.Stream (records_of t))) is))
+        (worked_judges (rings_of t) (items (plan_of t).order) (place (items (plan_of t).order)) (greatest_lead_in (streams_of t)) (fits t a) n mem room))
 
-    pub opens : (top : ℕ) (new : List ℕ) → top ≡ greatest_lead_in (streams_of t) → new ≡ opened (rings_of t) (plan_of t).order.items top mem → OpensRings (rings_of t) mem new
+    pub opens : (top : ℕ) (new : List ℕ) → top ≡ greatest_lead_in (streams_of t) → new ≡ opened (rings_of t) (items (plan_of t).order) top mem → OpensRings (rings_of t) mem new
     opens top new is e = ∥∥₁_elim t.accepted (opens_prop (rings_of t) mem new) (λ a.
-        subst (OpensRings (rings_of t) mem) (sym (e ∙ ap (λ (k : ℕ). opened (rings_of t) (plan_of t).order.items k mem) is))
-        (opened_opens (rings_of t) (plan_of t).order.items (place (plan_of t).order.items) (greatest_lead_in (streams_of t)) (fits t a) mem room))
+        subst (OpensRings (rings_of t) mem) (sym (e ∙ ap (λ (k : ℕ). opened (rings_of t) (items (plan_of t).order) k mem) is))
+        (opened_opens (rings_of t) (items (plan_of t).order) (place (items (plan_of t).order)) (greatest_lead_in (streams_of t)) (fits t a) mem room))
 
   -- ---- one step more
   module _ (top u : ℕ) (mem : List ℕ) where
     abbrev after : ℕ → List ℕ
-    after k = worked_first (rings_of t) (plan_of t).order.items top u mem k
+    after k = worked_first (rings_of t) (items (plan_of t).order) top u mem k
 
-    module _ (k s lead : ℕ) (old new : List ℕ) (turn : s ≡ get_or (plan_of t).order.items k 0) (is : lead ≡ lead_of t s) (so_far : old ≡ after k) where
+    module _ (k s lead : ℕ) (old new : List ℕ) (turn : s ≡ get_or (items (plan_of t).order) k 0) (is : lead ≡ lead_of t s) (so_far : old ≡ after k) where
       one_more : worked (rings_of t) top u (after k) s ≡ after (k + 1)
       one_more = let e : suc k ≡ k + 1 = omega arith in ap (worked (rings_of t) top u (after k)) turn ∙ ap after e
 

@@ -2,6 +2,7 @@
 ghost use Rattle.std.specs.Prelude.{◌≡◌, ◌+◌, ◌^◌, ◌<◌, length};
 ghost use Rattle.syntax.specs.declared.record.Kind.TheVariants.{Stream};
 ghost use Rattle.syntax.specs.Entries.{count};
+ghost use Rattle.lists.specs.Lists.{items};
 ghost use Rattle.rings.specs.Calls.{OpensRings, StoresSamples, Judges, OpensAndJudges};
 ghost use Rattle.rings.specs.Steps.{stored_value, worked_first};
 ghost use Rattle.tables.specs.Contents.{greatest_lead_in};
@@ -30,7 +31,7 @@ fn store(table: &Table, rings: &mut [u64], stream: usize, index: usize)
 fn work_tick(table: &Table, rings: &mut [u64], tick: usize, top: usize)
     requires room { HasRoom table.now rings.old }
     requires near { tick < 2 ^ 39 }
-    ensures { rings.new ≡ worked_first (rings_of table.now) (plan_of table.now).order.items top tick
+    ensures { rings.new ≡ worked_first (rings_of table.now) (items (plan_of table.now).order) top tick
         rings.old (count Stream (records_of table.now)) }
 {
     for stream in table.order() {

@@ -17,6 +17,7 @@ use Rattle.typing.proofs.WellTyped.{all_typed}
 use Rattle.references.specs.declared.reference.Id.{Id}
 use Rattle.references.specs.References.{reads, refer_name, references}
 use Rattle.walks.specs.Walks.{In}
+use Rattle.lists.specs.Lists.{items}
 use Rattle.schedule.specs.declared.plan.Plan.{Plan}
 use Rattle.schedule.specs.Graphs.{stream, openings}
 use Rattle.schedule.specs.Plans.{lead_in, lead_of}
@@ -41,11 +42,11 @@ module _ (rs : List Entry) (p : Plan) (w : WellPlanned rs p) where
   served = serves rs (orderly rs w.order) p w.planned
 
   abbrev pub rank_in : ℕ → ℕ
-  rank_in = place p.order.items
+  rank_in = place (items p.order)
 
   -- the streams of a rank, and back
   pub ranks : (s : ℕ) → s < count Stream rs → rank_in s < count Stream rs
-  ranks = ranked (count Stream rs) p.order.items served.order.each
+  ranks = ranked (count Stream rs) (items p.order) served.order.each
 
   -- what a reader with this lead and so many opening values names may be read
   module _ (id : Id) (lead opening rank : ℕ) (leading : lead_of p id ≡ pos lead) (counted : openings rs id ≡ opening)
@@ -65,7 +66,7 @@ module _ (rs : List Entry) (p : Plan) (w : WellPlanned rs p) where
       lead_in p s + d ≡ lead_in p q + opening_of rs s → rank_in q < rank_in s
   earlier s l q d m lq e =
       served.order.before (reads (stream s) Stream q d) m (omega (arith, ints, e, openings_same rs s l)) (rank_in q) (rank_in s) (ranks q lq) (ranks s l)
-      (ap stream (sym (order_of (count Stream rs) p.order.items served.order.each q lq))) (ap stream (sym (order_of (count Stream rs) p.order.items served.order.each s l)))
+      (ap stream (sym (order_of (count Stream rs) (items p.order) served.order.each q lq))) (ap stream (sym (order_of (count Stream rs) (items p.order) served.order.each s l)))
 
   pub stream_reads : (s : ℕ) → s < count Stream rs → (n : Name) → In (refer_name (stream s) n) (references [] rs) →
       Reads rs (lead_in p) rank_in (lead_in p s) (opening_of rs s) (rank_in s) n

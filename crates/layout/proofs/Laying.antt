@@ -1,7 +1,8 @@
 -- Heights at rest, the leads and lengths made from them, and streams in order of rank are a layout. Assumes nothing.
 use Rattle.std.proofs.Common.{◌≡◌, ℕ, List, get_or, sym, ap, subst, arith}
 use native.Mathlib.Decide.{dec_lt}
-use Rattle.arrayvec.specs.ArrayVec.{ArrayVec}
+use Rattle.lists.specs.declared.list.List.{List as Listed}
+use Rattle.lists.specs.Lists.{items}
 use Rattle.walks.specs.declared.edge.Edge.{Edge}
 use Rattle.walks.specs.Edges.{Fits}
 use Rattle.walks.proofs.Through.{all_bounded}
@@ -12,8 +13,8 @@ use Rattle.layout.specs.Orders.{rank, Ranked}
 use Rattle.layout.proofs.Resting.{resting_falls, leads_are, ranks_before}
 use Rattle.layout.proofs.Sizes.{rings_are}
 
-module _ (channels streams : ℕ) (es : List Edge) (fits : Fits channels streams es) (h : List ℕ) (rest : Resting es h) (order : ArrayVec ℕ) (ranked : Ranked order.items (rank h channels) streams) where
-  ordered : Ordered channels streams es (leads_of h) order.items
+module _ (channels streams : ℕ) (es : List Edge) (fits : Fits channels streams es) (h : List ℕ) (rest : Resting es h) (order : Listed ℕ 32) (ranked : Ranked (items order) (rank h channels) streams) where
+  ordered : Ordered channels streams es (leads_of h) (items order)
   ordered = record {
     each = ranked.each;
     before = λ e m newest i j li lj ei ej. elim (dec_lt i j) [

@@ -3,6 +3,7 @@ use Rattle.std.specs.Prelude.{◌≡◌, ℕ, ◌+◌, ◌<◌, List, ℤ, pos, 
 use Rattle.walks.specs.declared.edge.Edge.{Edge}
 use Rattle.walks.specs.Walks.{In, Falling, Lead, Newest, Ring}
 use Rattle.walks.specs.Edges.{graph}
+use Rattle.lists.specs.Lists.{items}
 use Rattle.layout.specs.declared.layout.Layout.{Layout}
 use Rattle.layout.specs.Orders.{EachOnce}
 
@@ -21,4 +22,4 @@ pub record Laid (channels streams : ℕ) (es : List Edge) (l : Layout) : Type 0 
   pub falls : Falling (graph es)
   pub leads : (s : ℕ) → s < 64 → Lead (graph es) s (lead_at l.leads s)
   pub rings : (q : ℕ) → q < 64 → Ring (graph es) (lead_at l.leads) q (slice_index l.lengths q)
-  pub order : Ordered channels streams es l.leads l.order.items
+  pub order : Ordered channels streams es l.leads (items l.order)

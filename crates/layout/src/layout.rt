@@ -7,19 +7,19 @@ ghost use Rattle.layout.specs.Layouts.{Laid};
 use crate::heights::resting_heights;
 use crate::order::evaluation_order;
 use crate::rings::{leads_of, ring_lengths};
-use arrayvec::ArrayVec;
+use lists::list::List;
 use walks::graph::{Graph, NODES, STREAMS};
 
 // How values are laid out: for each node its lead and its ring's length, and the streams in an order of evaluation.
 // Arrays and a list in place, since a layout must not fail for want of memory; two arrays, since all leads are known before any length.
-#[derive(Clone, Drop)]
+#[derive(Clone, Copy)]
 pub struct Layout {
     // For each node the greatest weight of any walk that ends there.
     pub leads: [u32; NODES],
     // For each node the length of its ring.
     pub lengths: [u32; NODES],
     // The streams by number: what is read at its newest index comes before its reader.
-    pub order: ArrayVec<usize, STREAMS>,
+    pub order: List<usize, STREAMS>,
 }
 
 // The layout of the nodes; none where a closed walk weighs 0 or more.
@@ -30,7 +30,7 @@ pub fn lay_out(graph: &Graph) -> Option<Layout>
     let heights = resting_heights(graph)?;
     let leads = leads_of(&heights);
     let lengths = ring_lengths(graph, &leads);
-    let order = evaluation_order(graph, &heights);
+    let order = List::from(&evaluation_order(graph, &heights));
     Some(Layout {
         leads,
         lengths,

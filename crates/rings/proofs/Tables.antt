@@ -12,6 +12,7 @@ use Rattle.names.specs.Uses.{uses}
 use Rattle.references.specs.declared.reference.Id.{Id}
 use Rattle.references.specs.References.{reads, refer_name, references}
 use Rattle.walks.specs.Walks.{In}
+use Rattle.lists.specs.Lists.{items}
 use Rattle.schedule.specs.declared.plan.Plan.{Plan}
 use Rattle.schedule.specs.Graphs.{channel, stream, openings}
 use Rattle.schedule.specs.Plans.{HasRing, ring_count, slots_before, ring_in, length_in, lead_in, lead_of}
@@ -142,7 +143,7 @@ module _ (rs : List Entry) (p : Plan) (w : WellPlanned rs p) where
             }
       ]
 
-  pub fitting : (top : ℕ) → ((s : ℕ) → s < count Stream rs → lead_in p s ≤ top) → Fitting S p.order.items (rank_in rs p w) top
+  pub fitting : (top : ℕ) → ((s : ℕ) → s < count Stream rs → lead_in p s ≤ top) → Fitting S (items p.order) (rank_in rs p w) top
   fitting top most = record {
     reads = body_fits;
     rules = All-weaker _ _ one_rule (rules rs) (rules_listed rs);
@@ -152,14 +153,14 @@ module _ (rs : List Entry) (p : Plan) (w : WellPlanned rs p) where
     apart = apart;
     covered = in_some_ring;
     ordered = (served rs p w).order.each.within;
-    rank_of = rank_of (count Stream rs) p.order.items (served rs p w).order.each;
+    rank_of = rank_of (count Stream rs) (items p.order) (served rs p w).order.each;
     ranked = ranks rs p w;
-    order_of = order_of (count Stream rs) p.order.items (served rs p w).order.each;
+    order_of = order_of (count Stream rs) (items p.order) (served rs p w).order.each;
   }
 
 pub laws : Laws
 laws rs p w =
     let top = greatest (lead_in p) (count Stream rs) in
-    lawful (system_of rs p) p.order.items (rank_in rs p w) top (fitting rs p w top (most (lead_in p) (count Stream rs)))
+    lawful (system_of rs p) (items p.order) (rank_in rs p w) top (fitting rs p w top (most (lead_in p) (count Stream rs)))
     ((on_the_past rs p w).values (lead_in p) (leads rs p w))
     (λ x. exists rs (lead_in p) (rank_in rs p w) top (sound rs p w top (most (lead_in p) (count Stream rs))) x 0 (λ t c h. absurd (omega (arith, h))))

@@ -12,7 +12,8 @@ use Rattle.walks.specs.Edges as plain
 use Rattle.walks.specs.Edges.{Fits}
 use Rattle.layout.specs.declared.layout.Layout.{Layout}
 use Rattle.layout.specs.Layouts as layouts
-use Rattle.arrayvec.specs.ArrayVec.{ArrayVec}
+use Rattle.lists.specs.declared.list.List.{List as Listed}
+use Rattle.lists.specs.Lists.{items}
 use Rattle.std.proofs.lemmas.List.FromFn.{length-map-range_with_len, get_or-map-range_with_len}
 use Rattle.schedule.specs.declared.plan.Plan.{Plan}
 use Rattle.schedule.specs.declared.plan.Ring.{Ring as Slots}
@@ -42,7 +43,7 @@ module _ (rs : List Entry) (o : Orderly rs) where
 
   module _ (l : Layout) (laid : layouts.Laid (count Channel rs) (count Stream rs) (edges rs) l) (settled : Settled (plain.graph (edges rs)) (plain.Channel (count Channel rs))) where
     module _ (lead : ℕ → ℕ) (leads_so : (s : ℕ) → s < count Stream rs → lead s ≡ get_or l.leads (count Channel rs + s) 0) where
-      ordered : Ordered rs lead l.order.items
+      ordered : Ordered rs lead (items l.order)
       unfolding node
       ordered = record {
         each = laid.order.each;
@@ -79,7 +80,7 @@ module _ (rs : List Entry) (o : Orderly rs) where
           };
           bases = λ q h. ap (λ r. r.base) (rings q h) ∙ slots_same (λ j. get_or l.lengths j 0) (length_in p) q (λ j lt. listed j (omega arith));
           rings = ap length places.rings ∙ length-map-range_with_len (ring_at l.leads l.lengths) 0 (channels + streams) ∙ some;
-          order = subst (λ (x : ArrayVec ℕ). Ordered rs (lead_in p) x.items) (sym places.order) (ordered (lead_in p) leads_so);
+          order = subst (λ (x : Listed ℕ 32). Ordered rs (lead_in p) (items x)) (sym places.order) (ordered (lead_in p) leads_so);
         }
       where
         channels_are : p.counts.records.channels ≡ count Channel rs

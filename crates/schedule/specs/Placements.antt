@@ -1,6 +1,7 @@
 -- Rings that lie one after another. Assumes nothing.
 use Rattle.std.specs.Prelude.{◌≡◌, ℕ, ◌+◌, List, map, slice_index}
 use Rattle.std.specs.List.{range_with_len}
+use Rattle.lists.specs.Lists.{items}
 use Rattle.layout.specs.declared.layout.Layout.{Layout}
 use Rattle.schedule.specs.declared.plan.Placed.{Placed}
 use Rattle.schedule.specs.declared.plan.Plan.{Plan}
@@ -23,4 +24,4 @@ pub record Consecutive (l : Layout) (count : ℕ) (p : Placed) : Type 0 where
 pub record Places (l : Layout) (channels streams rules : ℕ) (p : Plan) : Type 0 where
   pub counts : p.counts ≡ record { records = record { channels = channels; streams = streams; rules = rules }; slots = slots_before (λ j. slice_index l.lengths j) (channels + streams) }
   pub order : p.order ≡ l.order
-  pub rings : p.rings.items ≡ rings_of l.leads l.lengths (channels + streams)
+  pub rings : items p.rings ≡ rings_of l.leads l.lengths (channels + streams)

@@ -9,6 +9,7 @@ use Rattle.references.specs.declared.reference.Id.{Id}
 use Rattle.references.specs.declared.reference.Reference.{Reference}
 use Rattle.references.specs.References.{references}
 use Rattle.walks.specs.Walks.{In, Falling, Settled, Lead, Newest, Ring}
+use Rattle.lists.specs.Lists.{items}
 use Rattle.layout.specs.Orders.{EachOnce}
 use Rattle.schedule.specs.declared.plan.Counts.{Counts}
 use Rattle.schedule.specs.declared.plan.Plan.{Plan}
@@ -61,7 +62,7 @@ abbrev pub no_ring : Slots
 no_ring = record { base = 0; length = 0; lead = 0 }
 
 abbrev pub ring_in : Plan → ℕ → Slots
-ring_in p q = slice_index_or p.rings.items q no_ring
+ring_in p q = slice_index_or (items p.rings) q no_ring
 
 abbrev pub length_in : Plan → ℕ → ℕ
 length_in p q = (ring_in p q).length
@@ -103,5 +104,5 @@ pub record Planned (rs : List Entry) (p : Plan) : Type 0 where
   pub counts : p.counts ≡ counted rs (slots_of rs (length_of p))
   pub measured : Measured rs (lead_in p) (length_of p)
   pub bases : (q : ℕ) → q < ring_count rs → (ring_in p q).base ≡ slots_before (length_in p) q
-  pub rings : length p.rings.items ≡ ring_count rs
-  pub order : Ordered rs (lead_in p) p.order.items
+  pub rings : length (items p.rings) ≡ ring_count rs
+  pub order : Ordered rs (lead_in p) (items p.order)

@@ -4,6 +4,7 @@ use Rattle.syntax.specs.Entries.{Entry}
 use Rattle.references.specs.declared.reference.Reference.{Reference}
 use Rattle.references.specs.References.{references}
 use Rattle.walks.specs.Walks.{In, reach}
+use Rattle.lists.specs.Lists.{items}
 use Rattle.schedule.specs.declared.plan.Plan.{Plan}
 use Rattle.schedule.specs.Graphs.{graph, IsChannel}
 use Rattle.schedule.specs.Plans.{ring_count, ring_in, length_in, length_of, lead_in, lead_of, Ordered}
@@ -19,7 +20,7 @@ pub record Serves (rs : List Entry) (p : Plan) : Type 0 where
   pub finds : (r : Reference) → In r (references [] rs) → Finds rs p r
   pub sampled : (r : Reference) → In r (references [] rs) → IsChannel r.read →
       reach (graph rs) (lead_of p) r ≤ℤ pos 0
-  pub order : Ordered rs (lead_in p) p.order.items
+  pub order : Ordered rs (lead_in p) (items p.order)
   pub some : (q : ℕ) → q < ring_count rs → 0 < length_in p q
   pub first : 0 < ring_count rs → (ring_in p 0).base ≡ 0
   pub next : (q : ℕ) → q + 1 < ring_count rs →

@@ -13,6 +13,7 @@ use arrayvec::ArrayVec;
 use faults::cause::Cause;
 use faults::stop::Stop;
 use layout::layout::Layout;
+use lists::list::List;
 use std::alloc::Global;
 use std::fmt;
 use syntax::record;
@@ -48,12 +49,12 @@ pub struct Ring {
 }
 
 // The plan of a table. Rings are numbered as records are: the channels first, then the streams.
-#[derive(Clone, Drop)]
+#[derive(Clone, Copy)]
 pub struct Plan {
     pub counts: Counts,
     // The streams by number, in an order of evaluation.
-    pub order: ArrayVec<usize, STREAMS>,
-    pub rings: ArrayVec<Ring, RINGS>,
+    pub order: List<usize, STREAMS>,
+    pub rings: List<Ring, RINGS>,
 }
 
 // Where rings lie, one after another, and how many slots they take together.
@@ -97,7 +98,7 @@ fn lay_plan(layout: Layout, graph: &Graph, rules: usize) -> Plan
             slots,
         },
         order: layout.order,
-        rings,
+        rings: List::from(&rings),
     }
 }
 

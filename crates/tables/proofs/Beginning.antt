@@ -1,6 +1,7 @@
 -- The first table, which has no records, is in order. Assumes nothing.
 use Rattle.std.proofs.Common.{◌≡◌, [], ◌∷◌, length, Ok, refl, ap, arith}
 use Rattle.std.proofs.lemmas.Int.{ints}
+use Rattle.lists.specs.Lists.{items}
 use Rattle.schedule.specs.declared.plan.Counts.{Counts}
 use Rattle.schedule.specs.declared.plan.Plan.{Plan}
 use Rattle.schedule.specs.Edges.{InOrder}
@@ -25,7 +26,7 @@ first_settled a b (x ∷ w) c p = absurd p.1
 pub first_in_order : InOrder []
 first_in_order = record { small = tt; few = λ k. omega arith; named = refl }
 
-pub first_planned : (p : Plan) → p.counts ≡ counted [] 0 → p.order.items ≡ [] → p.rings.items ≡ [] → Planned [] p
+pub first_planned : (p : Plan) → p.counts ≡ counted [] 0 → items p.order ≡ [] → items p.rings ≡ [] → Planned [] p
 first_planned p e none no_rings = record {
   falls = first_falls;
   settled = first_settled;

@@ -70,6 +70,7 @@ module _ (t : Table) (a : IsAccepted t) where
     pub ring_of_channel : (c : Channel) → n < length (channels_of t) → (get_or (channels_of t) n c).ring ≡ ring_of (plan_of t) (channel n)
     ring_of_channel c inside = sym (get_or-map (λ (x : Channel). x.ring) (channels_of t) n c no_ring inside)
         ∙ sym (get_or_append_left (channel_rings (channels_of t)) (stream_rings (streams_of t)) no_ring n (omega (arith, length-map (channels_of t) (λ (x : Channel). x.ring))))
+        ∙ ap (λ l. get_or l n no_ring) a.sorts.rings
 
     pub ring_of_stream : (s : Stream) → n < length (streams_of t) → (get_or (streams_of t) n s).ring ≡ ring_of (plan_of t) (stream n)
     ring_of_stream s inside =
@@ -77,6 +78,7 @@ module _ (t : Table) (a : IsAccepted t) where
         let first : length rings ≡ (plan_of t).counts.records.channels = omega (arith, length-map (channels_of t) (λ (x : Channel). x.ring), channel_count, ap (λ c. c.records.channels) a.planned.counts) in
         sym (get_or-map (λ (x : Stream). x.ring) (streams_of t) n s no_ring inside)
         ∙ sym (get_or-append-add rings (stream_rings (streams_of t)) n no_ring)
+        ∙ ap (λ l. get_or l (length rings + n) no_ring) a.sorts.rings
         ∙ ap (λ i. ring_in (plan_of t) (i + n)) first
 
 -- ---- of any table, with nothing asked: its rings have slots, lie within the plan's, and the plan's are few

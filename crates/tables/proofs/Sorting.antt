@@ -18,6 +18,7 @@ use Rattle.syntax.specs.declared.record.Record.TheVariants as owned
 use Rattle.syntax.specs.declared.record.Stream.{Stream as Body}
 use Rattle.syntax.specs.declared.record.Rule.{Rule}
 use Rattle.syntax.specs.Entries.{Entry, entry_of, kind_of, kind_code, count}
+use Rattle.lists.specs.Lists.{items}
 use Rattle.schedule.specs.declared.plan.Plan.{Plan}
 use Rattle.schedule.specs.declared.plan.Ring.{Ring}
 use Rattle.schedule.specs.Plans.{Planned, no_ring}
@@ -85,12 +86,12 @@ module _ (xs : List Record) (r : Record) where
 
   module _ (rings : List Ring) (m : ℕ) (cs : List Channel) (ss : List Stream) (us : List Rule) (top : ℕ) (s : Sorted (map entry_of xs) rings m cs ss us top) where
     module _ (all : List Record) (front : xs ++ r ∷ [] ≡ take (length (xs ++ r ∷ [])) all) (p : Plan) (k : Planned (map entry_of all) p) where
-      pub channel_room : (t : Ty) → r ≡ owned.Channel t → p.rings.items ≡ rings → length cs < length rings
+      pub channel_room : (t : Ty) → r ≡ owned.Channel t → items p.rings ≡ rings → length cs < length rings
       channel_room t is same =
           let less = room kind.Channel all front (ap (λ x. of_kind kind.Channel (entry_of x ∷ [])) is ∙ sym (ap (λ x. entry_of x ∷ []) is)) in
           omega (arith, less, ap length same, k.rings, ap length s.kinds.channels_are, length-map cs channel_entry)
 
-      pub stream_room : (x : Body) → r ≡ owned.Stream x → p.rings.items ≡ rings → p.counts.records.channels ≡ m → m + length ss < length rings
+      pub stream_room : (x : Body) → r ≡ owned.Stream x → items p.rings ≡ rings → p.counts.records.channels ≡ m → m + length ss < length rings
       stream_room x is same first =
           let less = room kind.Stream all front (ap (λ y. of_kind kind.Stream (entry_of y ∷ [])) is ∙ sym (ap (λ y. entry_of y ∷ []) is)) in
           omega (arith, less, ap length same, k.rings, ap (λ c. c.records.channels) k.counts, ap length s.kinds.streams_are, length-map ss stream_entry)
@@ -127,7 +128,7 @@ module _ (xs : List Record) (r : Record) where
     }
 
 -- ---- and of all records: the rings are all the plan's
-module _ (rs : List Entry) (p : Plan) (k : Planned rs p) (cs : List Channel) (ss : List Stream) (us : List Rule) (top : ℕ) (s : Sorted rs p.rings.items p.counts.records.channels cs ss us top) where
+module _ (rs : List Entry) (p : Plan) (k : Planned rs p) (cs : List Channel) (ss : List Stream) (us : List Rule) (top : ℕ) (s : Sorted rs (items p.rings) p.counts.records.channels cs ss us top) where
   channels_long : length cs ≡ p.counts.records.channels
   channels_long =
       let e = ap length s.kinds.channels_are in
@@ -139,9 +140,9 @@ module _ (rs : List Entry) (p : Plan) (k : Planned rs p) (cs : List Channel) (ss
       let e = ap length s.kinds.streams_are in
       omega (arith, e, length-map ss stream_entry, length_of_kind kind.Stream rs)
 
-  pub rings_are : channel_rings cs ++ stream_rings ss ≡ p.rings.items
+  pub rings_are : channel_rings cs ++ stream_rings ss ≡ items p.rings
   rings_are =
       let m = p.counts.records.channels in
       let f = ap (λ c. c.records.channels) k.counts in
-      let all : take (length ss) (drop m p.rings.items) ≡ drop m p.rings.items = take_all (length ss) (drop m p.rings.items) (omega (arith, f, streams_long, k.rings, length-drop m p.rings.items)) in
-      ap (λ l. l ++ stream_rings ss) s.channels_lie ∙ ap (λ l. take (length cs) p.rings.items ++ l) (s.streams_lie ∙ all) ∙ ap (λ n. take n p.rings.items ++ drop m p.rings.items) channels_long ∙ take-append-drop m p.rings.items
+      let all : take (length ss) (drop m (items p.rings)) ≡ drop m (items p.rings) = take_all (length ss) (drop m (items p.rings)) (omega (arith, f, streams_long, k.rings, length-drop m (items p.rings))) in
+      ap (λ l. l ++ stream_rings ss) s.channels_lie ∙ ap (λ l. take (length cs) (items p.rings) ++ l) (s.streams_lie ∙ all) ∙ ap (λ n. take n (items p.rings) ++ drop m (items p.rings)) channels_long ∙ take-append-drop m (items p.rings)

@@ -18,4 +18,4 @@ pub record Accepted (bytes : List ℕ) (c : Content) : Type 0 where
   pub in_order : InOrder (records_in bytes)
   pub sorts : Sorts (records_in bytes) c
   pub planned : Planned (records_in bytes) (plan_in c)
-  pub small : c.counts.slots ≤ 2048
+  pub small : (plan_in c).counts.slots ≤ 2048

@@ -7,6 +7,7 @@ use Rattle.syntax.specs.declared.record.Rule.{Rule}
 use Rattle.syntax.specs.Trees.{exp}
 use Rattle.syntax.specs.Entries.{Entry, kind_of, kind_code}
 use Rattle.syntax.specs.Entries as entry
+use Rattle.lists.specs.Lists.{items}
 use Rattle.schedule.specs.declared.plan.Plan.{Plan}
 use Rattle.schedule.specs.declared.plan.Ring.{Ring}
 use Rattle.tables.specs.declared.content.Channel.{Channel}
@@ -45,9 +46,9 @@ greatest xs = fold max 0 xs
 abbrev pub greatest_lead_in : List Stream → ℕ
 greatest_lead_in ss = greatest (map (λ s. s.ring.lead) ss)
 
--- the plan that a content has kept: the channels' rings first, then the streams'
+-- the plan that a content has kept
 abbrev pub plan_in : Content → Plan
-plan_in c = record { counts = c.counts; order = c.order; rings = record { items = channel_rings (vec_items c.channels) ++ stream_rings (vec_items c.streams) } }
+plan_in c = c.plan
 
 -- channels, streams and rules are those of the records, in their order
 pub record ByKind (rs : List Entry) (channels : List Channel) (streams : List Stream) (rules : List Rule) : Type 0 where
@@ -55,9 +56,10 @@ pub record ByKind (rs : List Entry) (channels : List Channel) (streams : List St
   pub streams_are : map stream_entry streams ≡ of_kind kind.Stream rs
   pub rules_are : map rule_entry rules ≡ of_kind kind.Rule rs
 
--- a content has the records by kind, and the greatest lead of its streams
+-- a content has the records by kind, the plan's rings, of which the channels' lie first and then the streams', and the greatest lead of its streams
 pub record Sorts (rs : List Entry) (c : Content) : Type 0 where
   pub kinds : ByKind rs (vec_items c.channels) (vec_items c.streams) (vec_items c.rules)
+  pub rings : channel_rings (vec_items c.channels) ++ stream_rings (vec_items c.streams) ≡ items (plan_in c).rings
   pub greatest : c.greatest_lead ≡ greatest_lead_in (vec_items c.streams)
 
 -- the content of records and a plan of them

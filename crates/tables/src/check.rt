@@ -1,5 +1,6 @@
 // The check of a table, and the first table, which it has to replace.
 ghost use Rattle.std.specs.Prelude.{◌≡◌, IfOk};
+ghost use Rattle.lists.specs.Lists.{items};
 ghost use Rattle.tables.specs.Checking.{Admits, Answers, First, Decided};
 ghost use Rattle.tables.specs.Contents.{greatest_lead_in};
 ghost use Rattle.tables.specs.Tables.{bytes_of, channels_of, streams_of, rules_of, plan_of};
@@ -8,10 +9,10 @@ use crate::content::{Channel, Content, Stream};
 use crate::reading::read_checked;
 use crate::rejection::Rejection;
 use crate::table::Table;
-use arrayvec::ArrayVec;
 use faults::cause::Cause;
 use faults::fault::Layer;
 use faults::stop::Stop;
+use lists::list::List;
 use schedule::ordered::OrderedRecords;
 use schedule::plan::{Counts, Plan, make_plan};
 use std::alloc::{AllocError, Global};
@@ -43,8 +44,8 @@ impl Table {
         let bytes = vec![in alloc; 1u8]?;
         let plan = Plan {
             counts: Counts::default(),
-            order: ArrayVec::new(),
-            rings: ArrayVec::new(),
+            order: List::new(),
+            rings: List::new(),
         };
         let content = Content::new(alloc, Vec::new(alloc), plan)?;
         Ok(Table { bytes, content })
@@ -83,7 +84,7 @@ impl Table {
     pub fn counts(&self) -> Counts
         ensures { result ≡ (plan_of self.now).counts }
     {
-        self.content.counts
+        self.content.plan.counts
     }
 
     /// Its channels by number.
@@ -109,9 +110,9 @@ impl Table {
 
     /// The streams' numbers, in an order of evaluation.
     pub fn order(&self) -> &[usize]
-        ensures { result.now ≡ (plan_of self.now).order.items }
+        ensures { result.now ≡ (items (plan_of self.now).order) }
     {
-        &self.content.order
+        self.content.plan.order.as_slice()
     }
 
     /// The greatest lead of its streams, 0 where it has none.

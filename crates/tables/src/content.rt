@@ -3,14 +3,12 @@ ghost use Rattle.std.specs.Prelude.{IfOk};
 ghost use Rattle.syntax.specs.Entries.{entries_of};
 ghost use Rattle.schedule.specs.Plans.{Planned};
 
-use arrayvec::ArrayVec;
-use schedule::plan::{Counts, Plan, Ring};
+use schedule::plan::{Plan, Ring};
 use std::alloc::{AllocError, Global};
 use syntax::record::{self, Record, Rule};
 use syntax::tree::Expr;
 use values::types::Type;
 use values::value::Value;
-use walks::graph::STREAMS;
 
 /// A channel of an accepted table: its type, and where its samples lie.
 #[derive(Clone, Copy, Debug, PartialEq, Eq)]
@@ -31,11 +29,10 @@ pub struct Stream {
 // What a tick needs of a table: its channels, streams and rules by number, and the plan of its values, with each ring beside its channel or stream.
 #[derive(Drop)]
 pub(crate) struct Content {
-    pub(crate) counts: Counts,
+    pub(crate) plan: Plan,
     pub(crate) channels: Vec<Channel>,
     pub(crate) streams: Vec<Stream>,
     pub(crate) rules: Vec<Rule>,
-    pub(crate) order: ArrayVec<usize, STREAMS>,
     pub(crate) greatest_lead: u32,
 }
 
@@ -51,11 +48,7 @@ impl Content {
         requires { Planned (entries_of records) plan }
         ensures { IfOk result (Resolves (entries_of records) plan) }
     {
-        let Plan {
-            counts,
-            order,
-            rings,
-        } = plan;
+        let Plan { counts, rings, .. } = plan;
         let mut channels = Vec::with_capacity(alloc, counts.records.channels)?;
         let mut streams = Vec::with_capacity(alloc, counts.records.streams)?;
         let mut rules = Vec::with_capacity(alloc, counts.records.rules)?;
@@ -80,11 +73,10 @@ impl Content {
             }
         }
         Ok(Content {
-            counts,
+            plan,
             channels,
             streams,
             rules,
-            order,
             greatest_lead,
         })
     }

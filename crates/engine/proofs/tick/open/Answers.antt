@@ -1,4 +1,5 @@
 use Rattle.std.proofs.Common.{◌≡◌, ℕ, replicate, drop, ◌++◌, ap, ◌∙◌, arith}
+use Rattle.lists.specs.Lists.{items}
 use Rattle.rings.specs.Steps.{worked_through}
 use Rattle.tables.specs.Tables.{plan_of}
 use Rattle.engine.specs.Rings.{rings_of}
@@ -12,4 +13,4 @@ returns c =
     let end : c.loop-tick.tick ≡ top = omega (arith, c.loop-tick-test.false, c.loop-tick.auto) in
     opens t c.args.rings.now c.requires top c.loop-tick.rings c.greatest_lead-top.ensures
     (c.loop-tick.invariant ∙
-    ap (λ (k : ℕ). worked_through (rings_of t) (plan_of t).order.items top (replicate (plan_of t).counts.slots 0 ++ drop (plan_of t).counts.slots c.args.rings.now) k) end)
+    ap (λ (k : ℕ). worked_through (rings_of t) (items (plan_of t).order) top (replicate (plan_of t).counts.slots 0 ++ drop (plan_of t).counts.slots c.args.rings.now) k) end)

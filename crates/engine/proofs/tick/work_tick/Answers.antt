@@ -1,4 +1,5 @@
 use Rattle.std.proofs.Common.{◌≡◌, ℕ, List, length, get_or, ap, ◌∙◌, sym, arith}
+use Rattle.lists.specs.Lists.{items}
 use Rattle.rings.specs.Steps.{worked_first}
 use Rattle.tables.specs.declared.content.Stream.{Stream}
 use Rattle.tables.specs.Tables.{streams_of, plan_of}
@@ -51,4 +52,4 @@ pub returns : goal.returns
 returns c =
     let t = c.args.table.now in
     let end : c.loop-stream.stream-index ≡ _ = omega (arith, c.loop-stream-test.false, ap length c.order-stream-items.ensures, c.loop-stream.auto, order_long t) in
-    c.loop-stream.invariant ∙ ap (λ (k : ℕ). worked_first (rings_of t) (plan_of t).order.items c.args.top c.args.tick c.args.rings.now k) end
+    c.loop-stream.invariant ∙ ap (λ (k : ℕ). worked_first (rings_of t) (items (plan_of t).order) c.args.top c.args.tick c.args.rings.now k) end

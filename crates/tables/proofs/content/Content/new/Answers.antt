@@ -1,4 +1,5 @@
 use Rattle.std.proofs.Common.{List, length, map, subst, ap, refl, vec_items, arith, rules}
+use Rattle.lists.specs.Lists.{items}
 use Rattle.schedule.specs.declared.plan.Ring.{Ring}
 use Rattle.syntax.specs.declared.record.Record.{Record}
 use Rattle.syntax.specs.Entries.{entry_of, entries_of}
@@ -33,8 +34,8 @@ pub returns : goal.returns
 returns c =
     let all = taken_all (vec_items c.args.records) c.into_iter-record-iterator.result c.loop-record.record-iterator c.next.new.self c.loop-record.yielded c.next.result (search rules) (search rules) c.loop-record.yielded_by c.in-None.is c.next.ensures.steps in
     let p = c.args.plan in
-    let sorted = subst (λ (l : List Record). Sorted (map entry_of l) p.rings.items p.counts.records.channels c.loop-record.channels.items c.loop-record.streams.items c.loop-record.rules.items c.loop-record.greatest_lead) all c.loop-record.invariant in
+    let sorted = subst (λ (l : List Record). Sorted (map entry_of l) (items p.rings) p.counts.records.channels c.loop-record.channels.items c.loop-record.streams.items c.loop-record.rules.items c.loop-record.greatest_lead) all c.loop-record.invariant in
     let rings = rings_are (entries_of c.args.records) p c.requires _ _ _ _ sorted in (
-      record { kinds = sorted.kinds; greatest = sorted.greatest },
-      ap (λ (l : List Ring). record { counts = p.counts; order = p.order; rings = record { items = l } }) rings,
+      record { kinds = sorted.kinds; rings = rings; greatest = sorted.greatest },
+      refl,
     )

@@ -1,7 +1,8 @@
 use Rattle.std.proofs.Common.{map}
 use Rattle.syntax.specs.Entries.{entry_of}
+use Rattle.lists.specs.Lists.{items}
 use Rattle.tables.proofs.Sorting.{Sorted}
 use Rattle.tables.proofs.content.Content.new.Given as goal
 
 abbrev pub invariant-loop-record : goal.invariant-loop-record
-invariant-loop-record l = Sorted (map entry_of l.yielded) l.rings.items l.counts.records.channels l.channels.items l.streams.items l.rules.items l.greatest_lead
+invariant-loop-record l = Sorted (map entry_of l.yielded) (items l.rings) l.counts.records.channels l.channels.items l.streams.items l.rules.items l.greatest_lead

@@ -1,0 +1,5 @@
+// Lists of fixed room that can be copied.
+#![tactic(auto)]
+
+pub mod list;
+mod methods;
