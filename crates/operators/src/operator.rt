@@ -1,6 +1,6 @@
 // Operators and what they make of their operands.
 ghost use Rattle.std.specs.Prelude.{◌≡◌};
-ghost use Rattle.operators.specs.Operators.{truth, unary, binary};
+ghost use Rattle.operators.specs.Operators.{truth, unary, binary, chosen};
 
 use crate::arithmetic::{
     add, at_most, equal, less, multiply, negate, quotient, remainder, subtract,
@@ -66,4 +66,11 @@ impl Binary {
             Binary::AtMost => Value::Bool(at_most(left, right)),
         }
     }
+}
+
+/// The value if true where the test holds, otherwise the value if false.
+pub fn choose(test: Value, yes: Value, no: Value) -> Value
+    ensures { result ≡ chosen test yes no }
+{
+    if is_true(test) { yes } else { no }
 }
