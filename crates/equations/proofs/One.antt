@@ -53,7 +53,7 @@ module _ (rs : List Entry) (lead rank : ℕ → ℕ) (top : ℕ) (sound : Sound 
       ((q d : ℕ) → opening_of rs s ≤ i → reads_stream s q d → v q (i - opening_of rs s + d) ≡ w q (i - opening_of rs s + d)) → by_equation rs x v s i ≡ by_equation rs x w s i
   rests x v w s i l same = same_equation rs x v x w s i (λ k. All-weaker _ _ (λ u. one k u.name) (uses (equation_of rs s).body) (sound.reads s l))
     where
-      one : opening_of rs s ≤ i → (m : Name) → Reads rs lead rank (lead s) (opening_of rs s) (rank s) m → Same x v x w (i - opening_of rs s) m
+      one : opening_of rs s ≤ i → (m : Name) → Reads rs lead rank (lead s) (opening_of rs s) (rank s) m → Same x v (i - opening_of rs s) x w (i - opening_of rs s) m
       one k (name.Channel c) r = refl
       one k (name.Stream q d) r = same q d k r
 

@@ -23,19 +23,19 @@ module _ (rs : List Entry) (lead rank : ℕ → ℕ) (top : ℕ) (sound : Sound 
     (meets s i l h).1 ∙ same_equation rs x v y v s i (λ k. All-weaker _ _ (λ u. one s i h k u.name) (uses (equation_of rs s).body) (sound.reads s l)),
   )
     where
-      one : (s i : ℕ) → i < n + lead s → opening_of rs s ≤ i → (m : Name) → Reads rs lead rank (lead s) (opening_of rs s) (rank s) m → Same x v y v (i - opening_of rs s) m
+      one : (s i : ℕ) → i < n + lead s → opening_of rs s ≤ i → (m : Name) → Reads rs lead rank (lead s) (opening_of rs s) (rank s) m → Same x v (i - opening_of rs s) y v (i - opening_of rs s) m
       one s i h k (name.Channel c) r = same (i - opening_of rs s) c (omega (arith, h, k, r.past)) r.known
       one s i h k (name.Stream q d) r = refl
 
   module _ (v w : Values) (mv : Meets rs lead x n v) (mw : Meets rs lead y n w) where
     -- at a judged tick a rule finds the same samples and values
     module _ (t : ℕ) (l : t < n) where
-      found : (m : Name) → Reads rs lead rank 0 0 (count Stream rs) m → Same x v y w t m
+      found : (m : Name) → Reads rs lead rank 0 0 (count Stream rs) m → Same x v t y w t m
       found (name.Channel c) r = same t c l r.known
       found (name.Stream q d) r = unique rs lead rank top sound y n v w (meets_later v mv) mw q (t + d) r.known (omega (arith, l, r.ahead))
 
       same_value : (e : Exp) → AllRead rs lead rank 0 0 (count Stream rs) (uses e) → meaning x v t e ≡ meaning y w t e
-      same_value e read = depends_on_names e x v y w t (All-weaker _ _ (λ u. found u.name) (uses e) read)
+      same_value e read = depends_on_names e x v t y w t (All-weaker _ _ (λ u. found u.name) (uses e) read)
 
       same_rule : (r : Rule) → RuleReads rs lead rank r → SameRule x v y w t r
       same_rule r read = record { guard = same_value r.guard read.guard; arguments = same_arguments x v y w t r.arguments (All-weaker _ _ same_value r.arguments read.arguments) }

@@ -1,4 +1,4 @@
--- At each place an expression has one value over all sources that agree there on what it names. Assumes nothing.
+-- An expression has one value over all sources and places that agree on what it names. Assumes nothing.
 use Rattle.std.proofs.Common.{◌≡◌, ℕ, List, [], ◌∷◌, ◌++◌, refl, ap}
 use Rattle.std.specs.List.{AllByRecursion}
 use Rattle.values.specs.Values.{num, wrap}
@@ -18,8 +18,8 @@ module _ {X : Type 0} (P : X → Type 0) where
   all_right [] ys h = h
   all_right (x ∷ xs) ys h = all_right xs ys h.1
 
-module _ (x : Samples) (v : Values) (x' : Samples) (v' : Values) (p : ℕ) where
-  agreeing : (e : Exp) → Agree x v x' v' p (uses e) → meaning x v p e ≡ meaning x' v' p e
+module _ (x : Samples) (v : Values) (p : ℕ) (x' : Samples) (v' : Values) (p' : ℕ) where
+  agreeing : (e : Exp) → Agree x v p x' v' p' (uses e) → meaning x v p e ≡ meaning x' v' p' e
   agreeing (tree.constant at w) h = refl
   agreeing (tree.channel at i) h = h.0
   agreeing (tree.stream at i d) h = h.0
@@ -37,4 +37,4 @@ module _ (x : Samples) (v : Values) (x' : Samples) (v' : Values) (p : ℕ) where
       cc
 
 pub depends_on_names : (e : Exp) → DependsOnNames e
-depends_on_names e x v x' v' p h = agreeing x v x' v' p e h
+depends_on_names e x v p x' v' p' h = agreeing x v p x' v' p' e h

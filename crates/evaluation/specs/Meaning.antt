@@ -54,16 +54,17 @@ levels (tree.cast at t e) = levels e + 1
 levels (tree.binary at o a b) = max (levels a) (levels b) + 1
 levels (tree.choose at t a b) = max (levels t) (max (levels a) (levels b)) + 1
 
--- what two sources have at p under a name is the same
-abbrev pub Same : Samples → Values → Samples → Values → ℕ → Name → Type 0
-Same x v x' v' p (name.Channel i) = x p i ≡ x' p i
-Same x v x' v' p (name.Stream i d) = v i (p + d) ≡ v' i (p + d)
+-- what one source has at p under a name is what the other has at p'
+abbrev pub Same : Samples → Values → ℕ → Samples → Values → ℕ → Name → Type 0
+Same x v p x' v' p' (name.Channel i) = x p i ≡ x' p' i
+Same x v p x' v' p' (name.Stream i d) = v i (p + d) ≡ v' i (p' + d)
 
--- two sources agree at p on what is used
-abbrev pub Agree : Samples → Values → Samples → Values → ℕ → List Use → Type 0
-Agree x v x' v' p us = AllByRecursion (λ u. Same x v x' v' p u.name) us
+-- two sources, each at its place, agree on what is used
+abbrev pub Agree : Samples → Values → ℕ → Samples → Values → ℕ → List Use → Type 0
+Agree x v p x' v' p' us = AllByRecursion (λ u. Same x v p x' v' p' u.name) us
 
--- at each place an expression has one value over all sources that agree there on what it names
+-- an expression has one value over all sources and places that agree on what it names
 abbrev pub DependsOnNames : Exp → Type 0
 DependsOnNames e =
-    (x : Samples) (v : Values) (x' : Samples) (v' : Values) (p : ℕ) → Agree x v x' v' p (uses e) → meaning x v p e ≡ meaning x' v' p e
+    (x : Samples) (v : Values) (p : ℕ) (x' : Samples) (v' : Values) (p' : ℕ) →
+    Agree x v p x' v' p' (uses e) → meaning x v p e ≡ meaning x' v' p' e

@@ -104,7 +104,7 @@ module _ (S : System) (order : List ℕ) (rank : ℕ → ℕ) (top : ℕ) (fitti
   module _ (x : Samples) (n : ℕ) (mem : List ℕ) (holds : HoldsValues S x (n + 1) (n + 1) mem) (typed : TypedSamples S.records x (n + 1)) (v : Values)
       (meets : Meets S.records S.lead x (n + 1) v)
     where
-      one : (m : Name) → Reads S.records S.lead rank 0 0 (count Stream S.records) m × Keeps S 0 0 m → Same (samples_in S mem) (values_in S mem) x v n m
+      one : (m : Name) → Reads S.records S.lead rank 0 0 (count Stream S.records) m × Keeps S 0 0 m → Same (samples_in S mem) (values_in S mem) n x v n m
       one (name.Channel c) f =
           read_back S (channel c) (λ t. word (x t c)) (n + 1) mem (channel_type S.records c) (x n c) n ((holds v meets).samples c f.0.known) refl
           (typed n c (omega arith) f.0.known) (omega arith) (omega (arith, f.1))
@@ -113,7 +113,7 @@ module _ (S : System) (order : List ℕ) (rank : ℕ → ℕ) (top : ℕ) (fitti
           (meets q (n + d) f.0.known (omega (arith, f.0.ahead))).0 (omega (arith, f.0.ahead)) (omega (arith, f.1))
 
       worked_out : (e : Exp) → AllFit S rank 0 0 (count Stream S.records) e → meaning (samples_in S mem) (values_in S mem) n e ≡ meaning x v n e
-      worked_out e fit = depends_on_names e (samples_in S mem) (values_in S mem) x v n (All-weaker _ _ (λ u. one u.name) (uses e) fit)
+      worked_out e fit = depends_on_names e (samples_in S mem) (values_in S mem) n x v n (All-weaker _ _ (λ u. one u.name) (uses e) fit)
 
       same_rule : (r : Rule) → RuleFits S rank r → SameRule (samples_in S mem) (values_in S mem) x v n r
       same_rule r fits = record {

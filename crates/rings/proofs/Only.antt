@@ -58,7 +58,7 @@ module _ (S : System) (order : List ℕ) (rank : ℕ → ℕ) (top : ℕ) (fitti
     p = n + S.lead s - opening_of S.records s
 
     one_name : opening_of S.records s ≤ n + S.lead s → (m : Name) →
-        Reads S.records S.lead rank (S.lead s) (opening_of S.records s) (rank s) m × Keeps S (S.lead s) (opening_of S.records s) m → Same (samples_in S a) (values_in S a) (samples_in S b) (values_in S b) p m
+        Reads S.records S.lead rank (S.lead s) (opening_of S.records s) (rank s) m × Keeps S (S.lead s) (opening_of S.records s) m → Same (samples_in S a) (values_in S a) p (samples_in S b) (values_in S b) p m
     one_name h (name.Channel c) f =
         ap (λ (w : ℕ). wrap (channel_type S.records c) (pos w))
         (elsewhere (slot S (channel c) p) (λ q lq. channel_apart S order rank top fitting c q (p % S.size (channel c)) (n + S.lead q) f.0.known lq (mod-lt p (fitting.some (channel c) (channel_ring S.records c f.0.known)))))

@@ -100,7 +100,7 @@ module _ (S : System) (order : List ℕ) (rank : ℕ → ℕ) (top : ℕ) (fitti
       -- what the k-th reads stays from then on
       one : top ≤ u + S.lead s → opening_of S.records s ≤ index s → (n : Name) →
           Reads S.records S.lead rank (S.lead s) (opening_of S.records s) (rank s) n × Keeps S (S.lead s) (opening_of S.records s) n →
-          Same (samples_in S (after k)) (values_in S (after k)) (samples_in S final) (values_in S final) p n
+          Same (samples_in S (after k)) (values_in S (after k)) p (samples_in S final) (values_in S final) p n
       one t h (name.Channel c) f =
           ap (λ (w : ℕ). wrap (channel_type S.records c) (pos w))
           (sym (stays k streams (slot S (channel c) p) (omega (arith, lk)) (omega arith)

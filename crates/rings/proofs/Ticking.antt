@@ -67,7 +67,7 @@ module _ (S : System) (order : List ℕ) (rank : ℕ → ℕ) (top : ℕ) (fitti
           p = u + S.lead s - top - opening_of S.records s
 
           one : opening_of S.records s ≤ u + S.lead s - top → (n : Name) →
-              Reads S.records S.lead rank (S.lead s) (opening_of S.records s) (rank s) n × Keeps S (S.lead s) (opening_of S.records s) n → Same (samples_in S new) (values_in S new) x v p n
+              Reads S.records S.lead rank (S.lead s) (opening_of S.records s) (rank s) n × Keeps S (S.lead s) (opening_of S.records s) n → Same (samples_in S new) (values_in S new) p x v p n
           one h (name.Channel c) f =
               read_back S (channel c) (λ t. word (x t c)) m new (channel_type S.records c) (x p c) p (samples_stay c f.0.known) refl
               (typed p c (omega (arith, em, h, t, f.0.past)) f.0.known) (omega (arith, em, h, t, f.0.past)) (omega (arith, em, h, t, f.1))
