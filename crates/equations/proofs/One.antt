@@ -11,7 +11,7 @@ use Rattle.names.specs.declared.uses.Name.TheVariants as name
 use Rattle.names.specs.Uses.{uses}
 use Rattle.typing.specs.Scopes.{channel_types, stream_types}
 use Rattle.evaluation.specs.Meaning.{Samples, Values, Same}
-use Rattle.evaluation.specs.Kept.{OfType}
+use Rattle.evaluation.proofs.Ranges.{Ranged}
 use Rattle.equations.specs.Equations.{equation_of, opening_of, by_equation, TypedSamples, Meets, SameValues}
 use Rattle.equations.proofs.Listing.{type_same}
 use Rattle.equations.proofs.Reading.{same_equation}
@@ -99,7 +99,7 @@ module _ (rs : List Entry) (lead rank : ℕ → ℕ) (top : ℕ) (sound : Sound 
     unfolding stepped
     met s i l = rests x (stepped (height s i)) values s i l (λ q d k r. enough (height s i) q (i - opening_of rs s + d) r.known (lower s i q d l k r))
 
-    -- what an equation gives has its stream's type where what it reads has the declared types
+    -- what an equation gives is in the range of its stream's type where what it reads is in that of the declared types
     of_type : (s i : ℕ) → s < streams → i < n + lead s →
         ((q d : ℕ) → opening_of rs s ≤ i → reads_stream s q d → HasType (equation_of rs q).ty (values q (i - opening_of rs s + d))) →
         HasType (equation_of rs s).ty (by_equation rs x values s i)
@@ -111,7 +111,7 @@ module _ (rs : List Entry) (lead rank : ℕ → ℕ) (top : ℕ) (sound : Sound 
           (All-weaker _ _ (λ u. one (ltb-false i (opening_of rs s) high) u.name) (uses (equation_of rs s).body) (sound.reads s l)))
     ]
       where
-        one : opening_of rs s ≤ i → (m : Name) → Reads rs lead rank (lead s) (opening_of rs s) (rank s) m → OfType (channel_types rs) (stream_types rs) x values (i - opening_of rs s) m
+        one : opening_of rs s ≤ i → (m : Name) → Reads rs lead rank (lead s) (opening_of rs s) (rank s) m → Ranged (channel_types rs) (stream_types rs) x values (i - opening_of rs s) m
         one k (name.Channel c) r = typed (i - opening_of rs s) c (omega (arith, li, k, r.past)) r.known
         one k (name.Stream q d) r = subst (λ t. HasType t (values q (i - opening_of rs s + d))) (sym (type_same rs q)) (read q d k r)
 

@@ -9,7 +9,7 @@ use Rattle.names.specs.declared.uses.Name.TheVariants as name
 use Rattle.names.specs.Uses.{Use, uses}
 use Rattle.typing.specs.Scopes.{channel_types, stream_types}
 use Rattle.evaluation.specs.Meaning.{Samples, Values, meaning}
-use Rattle.evaluation.specs.Kept.{OfTypes}
+use Rattle.evaluation.proofs.Ranges.{AllRanged}
 use Rattle.equations.specs.Equations.{equation_of, opening_of}
 use Rattle.equations.specs.Alarms.{Rule, rules}
 
@@ -45,4 +45,4 @@ pub record Sound (rs : List Entry) (lead rank : ℕ → ℕ) (top : ℕ) : Type 
   pub rules_read : AllByRecursion (RuleReads rs lead rank) (rules rs)
   pub opens : (s : ℕ) → s < count Stream rs → AllByRecursion (HasType (equation_of rs s).ty) (equation_of rs s).opening
   pub typed : (s : ℕ) → s < count Stream rs → (x : Samples) (v : Values) (p : ℕ) →
-      OfTypes (channel_types rs) (stream_types rs) x v p (uses (equation_of rs s).body) → HasType (equation_of rs s).ty (meaning x v p (equation_of rs s).body)
+      AllRanged (channel_types rs) (stream_types rs) x v p (uses (equation_of rs s).body) → HasType (equation_of rs s).ty (meaning x v p (equation_of rs s).body)

@@ -88,8 +88,8 @@ module _ (cs ss : List Ty) where
     unfolding shape
     kept zero e t h w = absurd (refused h)
     kept (suc d) (tree.constant at y) t h w = cc
-    kept (suc d) (tree.channel at i) t h w = let k = w.0.0 in cc
-    kept (suc d) (tree.stream at i y) t h w = let k = w.0.0 in cc
+    kept (suc d) (tree.channel at i) t h w = let k = w.0 in cc
+    kept (suc d) (tree.stream at i y) t h w = let k = w.0 in cc
     kept (suc d) (tree.unary at o e) t h w =
         let q = operand_ok cs ss d e _ t h in
         unary_kept o (meaning x v p e) q.type t (kept d e q.type q.typed w) (fitted_ok at (unary_type o q.type) t q.rest)

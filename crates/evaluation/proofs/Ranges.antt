@@ -1,7 +1,10 @@
--- The meaning of an expression lies in its type's range. Assumes nothing.
-use Rattle.std.proofs.Common.{◌≡◌, ℕ, zero, suc, Bool as Truth, true, false, cond, List, ◌++◌, Ok, arith}
+-- The meaning of an expression lies in its type's range where what it reads does. Assumes nothing.
+use Rattle.std.proofs.Common.{◌≡◌, ℕ, zero, suc, ◌+◌, Bool as Truth, true, false, cond, List, ◌++◌, Ok, slice_index_or, arith}
+use Rattle.std.specs.List.{AllByRecursion}
+use Rattle.std.proofs.ByRecursion.{All-weaker}
 use Rattle.std.proofs.lemmas.Int.{ints}
 use Rattle.values.specs.declared.types.«Type».{«Type» as Ty}
+use Rattle.values.specs.declared.types.«Type».TheVariants as ty
 use Rattle.values.specs.declared.value.Value.{Value}
 use Rattle.values.specs.declared.value.Value.TheVariants.{Bool}
 use Rattle.values.specs.Values.{Proper, HasType}
@@ -14,10 +17,12 @@ use Rattle.operators.specs.Operators.{truth, unary, binary}
 use Rattle.syntax.specs.Trees.{Exp}
 use Rattle.syntax.specs.Trees as tree
 use Rattle.syntax.specs.Written.{Bounded}
-use Rattle.names.specs.Uses.{uses}
+use Rattle.names.specs.declared.uses.Name.{Name}
+use Rattle.names.specs.declared.uses.Name.TheVariants as name
+use Rattle.names.specs.Uses.{Use, uses}
 use Rattle.typing.specs.Typing.{shape}
 use Rattle.evaluation.specs.Meaning.{Samples, Values, meaning}
-use Rattle.evaluation.specs.Kept.{OfTypes}
+use Rattle.evaluation.specs.Kept.{OfType}
 use Rattle.evaluation.proofs.Agreeing.{all_left, all_right}
 use Rattle.evaluation.proofs.Kept.{kept}
 
@@ -45,8 +50,21 @@ either_proper : (b : Truth) (w y : Value) → Proper w → Proper y → Proper (
 either_proper true w y m n = m
 either_proper false w y m n = n
 
+-- what is read at p under a name is a value of the declared type, and lies in its range
+abbrev pub Ranged : List Ty → List Ty → Samples → Values → ℕ → Name → Type 0
+Ranged cs ss x v p (name.Channel i) = HasType (slice_index_or cs i ty.Bool) (x p i)
+Ranged cs ss x v p (name.Stream i d) = HasType (slice_index_or ss i ty.Bool) (v i (p + d))
+
+-- and so is all that is used
+abbrev pub AllRanged : List Ty → List Ty → Samples → Values → ℕ → List Use → Type 0
+AllRanged cs ss x v p us = AllByRecursion (λ u. Ranged cs ss x v p u.name) us
+
 module _ (cs ss : List Ty) (x : Samples) (v : Values) (p : ℕ) where
-  meaning_proper : (d : ℕ) (e : Exp) → Bounded d e → OfTypes cs ss x v p (uses e) → Proper (meaning x v p e)
+  of_type : (m : Name) → Ranged cs ss x v p m → OfType cs ss x v p m
+  of_type (name.Channel i) h = h.0
+  of_type (name.Stream i d) h = h.0
+
+  meaning_proper : (d : ℕ) (e : Exp) → Bounded d e → AllRanged cs ss x v p (uses e) → Proper (meaning x v p e)
   meaning_proper zero e b h = absurd b
   meaning_proper (suc d) (tree.constant at w) b h = b
   meaning_proper (suc d) (tree.channel at i) b h = h.0.1
@@ -59,6 +77,7 @@ module _ (cs ss : List Ty) (x : Samples) (v : Values) (p : ℕ) where
       either_proper (truth (meaning x v p t)) (meaning x v p a) (meaning x v p c)
       (meaning_proper d a b.1 (all_left _ (uses a) (uses c) rest)) (meaning_proper d c b.2 (all_right _ (uses a) (uses c) rest))
 
-  -- where all that a typed expression names has the declared types, its meaning has its type
-  pub meaning_typed : (e : Exp) (t : Ty) → shape cs ss 12 e ≡ Ok t → Bounded 12 e → OfTypes cs ss x v p (uses e) → HasType t (meaning x v p e)
-  meaning_typed e t typed bounded h = (kept cs ss x v p 12 e t typed h, meaning_proper 12 e bounded h)
+  -- where all that a typed expression names is in the range of the declared types, its meaning is in that of its type
+  pub meaning_typed : (e : Exp) (t : Ty) → shape cs ss 12 e ≡ Ok t → Bounded 12 e → AllRanged cs ss x v p (uses e) → HasType t (meaning x v p e)
+  meaning_typed e t typed bounded h =
+      (kept cs ss x v p 12 e t typed (All-weaker _ _ (λ u. of_type u.name) (uses e) h), meaning_proper 12 e bounded h)
