@@ -1,5 +1,5 @@
 -- Text in hexadecimal, and the bytes that it writes. Assumes nothing.
-use Rattle.std.specs.Prelude.{ℕ, ◌+◌, ◌-◌, ◌*◌, Bool, cond, ◌&&◌, List, [], ◌∷◌, Some, None, Option, nat_le}
+use Rattle.std.specs.Prelude.{◌≡◌, ℕ, ◌+◌, ◌-◌, ◌*◌, ◌%◌, Bool, cond, ◌&&◌, List, [], ◌∷◌, length, slice_index, Some, None, Option, IsSome, nat_le}
 use Rattle.std.specs.Option.{option_map}
 
 -- c lies between two characters, both included
@@ -27,3 +27,7 @@ unfoldable pub bytes_of : List ℕ → Option (List ℕ)
 bytes_of [] = Some []
 bytes_of (high ∷ []) = None
 bytes_of (high ∷ (low ∷ rest)) = then (byte_of high low) (λ b. option_map (λ bs. b ∷ bs) (bytes_of rest))
+
+-- a text in whole pairs, of which the first is two digits
+abbrev pub BeginsWithByte : List ℕ → Type 0
+BeginsWithByte text = (length text % 2 ≡ 0) × IsSome (byte_of (slice_index text 0) (slice_index text 1))
