@@ -45,7 +45,7 @@ appends_none : (o : Option (List ℕ)) → Appends o o []
 appends_none None = tt
 appends_none (Some xs) = sym (append-nil xs)
 
-appends_more : (old mid new : Option (List ℕ)) (bs cs : List ℕ) → Appends old mid bs → Appends mid new cs → Appends old new (bs ++ cs)
+pub appends_more : (old mid new : Option (List ℕ)) (bs cs : List ℕ) → Appends old mid bs → Appends mid new cs → Appends old new (bs ++ cs)
 appends_more None mid new bs cs a b = tt
 appends_more (Some xs) None new bs cs a b = absurd a
 appends_more (Some xs) (Some ys) None bs cs a b = absurd b

@@ -3,6 +3,7 @@ ghost use Rattle.std.specs.Prelude.{◌≡◌, ◌≤◌, [], ◌∷◌, length,
 ghost use Rattle.std.specs.Io.KnownBytes.{Appends};
 ghost use Rattle.programs.specs.Telling.{Answers, written};
 
+use crate::output::write_line;
 use anyhow::Context;
 use std::alloc::{AllocError, Global};
 use std::io::{Read, Write};
@@ -41,6 +42,6 @@ pub fn tell_input<R: Read + Drop, W: Write, F: Fn(Global, &[u8]) -> Result<Strin
         × Appends (W.contents output.old) (W.contents output.new) (written (told ∷ []))) }
 {
     let bytes = read_at_most(alloc, input, MOST)?;
-    writeln!(output, "{}", tell(alloc, &bytes)?)?;
+    write_line(output, &tell(alloc, &bytes)?)?;
     Ok(())
 }

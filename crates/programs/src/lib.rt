@@ -3,6 +3,7 @@
 
 pub mod exit;
 pub mod input;
+mod output;
 #[cfg(test)]
 mod tests;
 pub mod vectors;

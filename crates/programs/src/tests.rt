@@ -1,9 +1,11 @@
 // That calls succeed, and the text of an error, on examples.
 use crate::exit::exit_code;
 use crate::input::{read_at_most, tell_input};
+use crate::output::write_line;
 use crate::vectors::{table_bytes, tell_line, tell_lines};
+use std::alloc::Global;
 use std::io;
-use std::io::{ErrorKind, Read};
+use std::io::{ErrorKind, Read, Write};
 use std::process::ExitCode;
 use std::test::Fail;
 
@@ -21,6 +23,27 @@ impl Read for Failing {
         self.asked = true;
         buf[0] = 1;
         Ok(1)
+    }
+}
+
+// Counts the calls of `write`; it takes all that it is given, or fails.
+#[derive(Drop)]
+struct Counting {
+    writes: usize,
+    fails: bool,
+}
+
+impl Write for Counting {
+    fn write(&mut self, buf: &[u8]) -> io::Result<usize> {
+        self.writes = self.writes.saturating_add(1);
+        if self.fails {
+            return Err(io::Error::from(ErrorKind::TimedOut));
+        }
+        Ok(buf.len())
+    }
+
+    fn flush(&mut self) -> io::Result<()> {
+        Ok(())
     }
 }
 
@@ -55,6 +78,40 @@ fn tells_of_the_input(rt: HostRuntime) -> Result<(), Fail> {
         format!(in alloc; "{bytes:?}")
     })?;
     assert!(rt; output.as_slice() == b"[1, 2]\n".as_slice());
+    Ok(())
+}
+
+#[test]
+fn tells_by_one_write(rt: HostRuntime) -> Result<(), Fail> {
+    let alloc = rt.alloc();
+    let input = [1u8, 2];
+    let told = |alloc: Global, _: &[u8]| String::from_str(alloc, "two\nlines");
+    let mut output = Counting {
+        writes: 0,
+        fails: false,
+    };
+    tell_input(alloc, input.as_slice(), &mut output, told)?;
+    assert!(rt; output.writes == 1);
+    let mut output = Counting {
+        writes: 0,
+        fails: true,
+    };
+    assert!(rt; tell_input(alloc, input.as_slice(), &mut output, told).is_err());
+    assert!(rt; output.writes == 1);
+    Ok(())
+}
+
+#[test]
+fn writes_a_long_line_whole(rt: HostRuntime) -> Result<(), Fail> {
+    let alloc = rt.alloc();
+    let mut line = String::new(alloc);
+    for _ in 0..1030 {
+        line.push('a')?;
+    }
+    let mut output = Vec::new(alloc);
+    write_line(&mut output, &line)?;
+    line.push('\n')?;
+    assert!(rt; output.as_slice() == line.as_bytes());
     Ok(())
 }
 

@@ -5,6 +5,7 @@ ghost use Rattle.std.specs.List.{AllZip, filter_map};
 ghost use Rattle.std.specs.Option.{option_map};
 ghost use Rattle.programs.specs.Telling.{table_of, TellsBy, Split, text_of, Answers, written};
 
+use crate::output::write_line;
 use hexadecimal::parse_hex;
 use std::alloc::{AllocError, Global};
 use std::io::{BufRead, Write};
@@ -60,9 +61,10 @@ pub fn tell_lines<R: BufRead + Drop, W: Write, F: Fn(Global, &str) -> Result<Str
 {
     for line in input.lines(alloc) {
         let line = line?;
-        if let Some(text) = line_text(&line) {
-            writeln!(output, "{}", tell(alloc, text)?)?;
-        }
+        let Some(text) = line_text(&line) else {
+            continue;
+        };
+        write_line(output, &tell(alloc, text)?)?;
     }
     Ok(())
 }

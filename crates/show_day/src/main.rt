@@ -14,7 +14,7 @@ use programs::exit::exit_code;
 use programs::vectors::{table_bytes, tell_lines};
 use sampling::hold::Hold;
 use std::alloc::{AllocError, Global};
-use std::io::{BufReader, LineWriter};
+use std::io::BufReader;
 use std::process::ExitCode;
 use tables::line::BLANK_SHEET;
 use tables::table::Table;
@@ -102,8 +102,7 @@ fn tell(alloc: Global, line: &str) -> Result<String, AllocError> {
 fn run(rt: &HostRuntime) -> anyhow::Result<()> {
     let alloc = rt.alloc();
     let input = BufReader::new(alloc, rt.stdin())?;
-    let mut output = LineWriter::new(alloc, rt.stdout())?;
-    tell_lines(alloc, input, &mut output, tell)
+    tell_lines(alloc, input, &mut rt.stdout(), tell)
 }
 
 fn main(rt: HostRuntime) -> ExitCode {

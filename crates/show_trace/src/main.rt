@@ -9,7 +9,7 @@ use sampling::hold::Hold;
 use sampling::row::CHANNELS;
 use sampling::watch::{Sighting, watch};
 use std::alloc::{AllocError, Global};
-use std::io::{BufReader, LineWriter};
+use std::io::BufReader;
 use std::process::ExitCode;
 use traces::trace::Trace;
 
@@ -82,8 +82,7 @@ fn tell(alloc: Global, line: &str) -> Result<String, AllocError> {
 fn run(rt: &HostRuntime) -> anyhow::Result<()> {
     let alloc = rt.alloc();
     let input = BufReader::new(alloc, rt.stdin())?;
-    let mut output = LineWriter::new(alloc, rt.stdout())?;
-    tell_lines(alloc, input, &mut output, tell)
+    tell_lines(alloc, input, &mut rt.stdout(), tell)
 }
 
 fn main(rt: HostRuntime) -> ExitCode {
