@@ -1,5 +1,5 @@
 // What a list is made of, and what it gives. In a file of its own, since the definition of its items names the struct.
-ghost use Rattle.std.specs.Prelude.{◌≡◌, ◌≤◌, [], length};
+ghost use Rattle.std.specs.Prelude.{◌≡◌, ◌<◌, ◌≤◌, [], ◌∷◌, ◌++◌, length};
 ghost use Rattle.lists.specs.Lists.{items};
 
 use crate::list::List;
@@ -19,6 +19,16 @@ impl<T: Copy + Default, const CAP: usize> List<T, CAP> {
 }
 
 impl<T: Copy, const CAP: usize> List<T, CAP> {
+    /// Adds an item after the others.
+    pub fn push(&mut self, item: T)
+        // A list knows its count, but not what else its caller will add.
+        requires { length (items self.old) < CAP }
+        ensures { items self.new ≡ items self.old ++ item ∷ [] }
+    {
+        self.room[self.count] = item;
+        self.count += 1;
+    }
+
     /// The items, in order.
     pub fn as_slice(&self) -> &[T]
         ensures value { result.now ≡ items self.now }

@@ -17,7 +17,7 @@ abbrev pub rings_of : List ℕ → List ℕ → ℕ → List Ring
 rings_of leads lengths count = map (ring_at leads lengths) (range_with_len 0 count)
 
 pub record Consecutive (l : Layout) (count : ℕ) (p : Placed) : Type 0 where
-  pub rings : p.rings.items ≡ rings_of l.leads l.lengths count
+  pub rings : items p.rings ≡ rings_of l.leads l.lengths count
   pub slots : p.slots ≡ slots_before (λ j. slice_index l.lengths j) count
 
 -- a plan by a layout, with rings that lie one after another

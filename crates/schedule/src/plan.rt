@@ -9,7 +9,6 @@ ghost use Rattle.schedule.specs.Lines.{size_text};
 use crate::edges::list_edges;
 use crate::ordered::OrderedRecords;
 use crate::walking::weigh_walks;
-use arrayvec::ArrayVec;
 use faults::cause::Cause;
 use faults::stop::Stop;
 use layout::layout::Layout;
@@ -58,9 +57,9 @@ pub struct Plan {
 }
 
 // Where rings lie, one after another, and how many slots they take together.
-#[derive(Drop)]
+#[derive(Clone, Copy)]
 pub(crate) struct Placed {
-    pub(crate) rings: ArrayVec<Ring, RINGS>,
+    pub(crate) rings: List<Ring, RINGS>,
     pub(crate) slots: usize,
 }
 
@@ -69,7 +68,7 @@ fn place_rings(layout: &Layout, graph: &Graph) -> Placed
     ensures { Consecutive layout.now (graph.now.channels + graph.now.streams) result }
 {
     let count = graph.channels + graph.streams;
-    let mut rings = ArrayVec::new();
+    let mut rings = List::new();
     let mut slots = 0;
     for (length, lead) in layout.lengths[..count].iter().zip(&layout.leads) {
         let length = *length as usize;
@@ -84,10 +83,10 @@ fn place_rings(layout: &Layout, graph: &Graph) -> Placed
 }
 
 // The plan that a layout of a graph gives, with so many rules.
-fn lay_plan(layout: Layout, graph: &Graph, rules: usize) -> Plan
-    ensures { Places layout graph.now.channels graph.now.streams rules result }
+fn lay_plan(layout: &Layout, graph: &Graph, rules: usize) -> Plan
+    ensures { Places layout.now graph.now.channels graph.now.streams rules result }
 {
-    let Placed { rings, slots } = place_rings(&layout, graph);
+    let Placed { rings, slots } = place_rings(layout, graph);
     Plan {
         counts: Counts {
             records: record::Counts {
@@ -98,7 +97,7 @@ fn lay_plan(layout: Layout, graph: &Graph, rules: usize) -> Plan
             slots,
         },
         order: layout.order,
-        rings: List::from(&rings),
+        rings,
     }
 }
 
@@ -120,7 +119,7 @@ pub fn make_plan(
         edges: &edges,
     };
     let layout = weigh_walks(&graph, sheet)?;
-    let plan = lay_plan(layout, &graph, counts.rules);
+    let plan = lay_plan(&layout, &graph, counts.rules);
     if plan.counts.slots > MOST_SLOTS {
         return Err(Stop::Refused(Cause::Slots(plan.counts.slots)));
     }

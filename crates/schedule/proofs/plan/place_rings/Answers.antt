@@ -38,7 +38,7 @@ loop-length-preserved c =
     let ring : record { base = c.loop-length.slots; length = c.in-Some.length.now; lead = c.in-Some.lead.now } ≡ ring_at leads lengths q = λ i. record { base = c.loop-length.invariant.slots i; length = is i; lead = led i } in
     let more : length (c.loop-length.yielded ++ (c.in-Some.length, c.in-Some.lead) ∷ []) ≡ q + 1 = length_push c.loop-length.yielded (c.in-Some.length, c.in-Some.lead) in
     record {
-      placed = c.push.ensures.items ∙ (λ i. c.loop-length.invariant.placed i ++ ring i ∷ []) ∙ sym (map-range_with_len_more (ring_at leads lengths) 0 q q (omega arith)) ∙ ap (rings_of leads lengths) (sym more);
+      placed = c.push.ensures ∙ (λ i. c.loop-length.invariant.placed i ++ ring i ∷ []) ∙ sym (map-range_with_len_more (ring_at leads lengths) 0 q q (omega arith)) ∙ ap (rings_of leads lengths) (sym more);
       slots = (λ i. c.loop-length.invariant.slots i + is i) ∙ sym (slots_more (λ j. get_or lengths j 0) q) ∙ ap (slots_before (λ j. get_or lengths j 0)) (sym more);
       bound = omega (arith, more, c.loop-length.invariant.bound);
     }
