@@ -22,7 +22,7 @@ use Rattle.walks.specs.declared.edge.SheetEntry.{SheetEntry}
 use Rattle.tables.specs.declared.content.Content.{Content}
 use Rattle.tables.specs.declared.table.Table.{Table}
 use Rattle.tables.specs.Reading.{checked}
-use Rattle.tables.specs.Contents.{Sorts, Resolves, plan_in}
+use Rattle.tables.specs.Contents.{Sorts}
 use Rattle.tables.specs.Accepting.{Accepted, records_in}
 use Rattle.tables.specs.Tables.{bytes_of, plan_of}
 use Rattle.tables.specs.Checking.{Accepts, Starved, Admits, Holds}
@@ -91,13 +91,13 @@ module _ (bytes : List ℕ) (rs : List Entry) (e : checked bytes ≡ Ok rs) wher
   written : rs ≡ records_in bytes
   written = sym (ap (λ (r : Result (List Entry) Refusal). result_unwrap_or r []) e)
 
-  pub accepted : (p : Plan) (c : Content) → Resolves rs p c → InOrder rs → Planned rs p → p.counts.slots ≤ 2048 → Accepted bytes c
-  accepted p c made in_order planned small = record {
+  pub accepted : (p : Plan) (c : Content) → Sorts rs p c → InOrder rs → Planned rs p → p.counts.slots ≤ 2048 → Accepted bytes p c
+  accepted p c sorts in_order planned small = record {
     passed = e ∙ ap Ok written;
     in_order = subst InOrder written in_order;
-    sorts = subst (λ (l : List Entry). Sorts l c) written made.0;
-    planned = subst (λ (l : List Entry). Planned l (plan_in c)) written (subst (Planned rs) (sym made.1) planned);
-    small = subst (λ (q : Plan). q.counts.slots ≤ 2048) (sym made.1) small;
+    sorts = subst (λ (l : List Entry). Sorts l p c) written sorts;
+    planned = subst (λ (l : List Entry). Planned l p) written planned;
+    small = small;
   }
 
   pub holds : (t : Table) (c : Counts) → bytes_of t ≡ bytes → (plan_of t).counts ≡ c → Holds t bytes c

@@ -46,10 +46,6 @@ greatest xs = fold max 0 xs
 abbrev pub greatest_lead_in : List Stream → ℕ
 greatest_lead_in ss = greatest (map (λ s. s.ring.lead) ss)
 
--- the plan that a content has kept
-abbrev pub plan_in : Content → Plan
-plan_in c = c.plan
-
 -- channels, streams and rules are those of the records, in their order
 pub record ByKind (rs : List Entry) (channels : List Channel) (streams : List Stream) (rules : List Rule) : Type 0 where
   pub channels_are : map channel_entry channels ≡ of_kind kind.Channel rs
@@ -57,11 +53,7 @@ pub record ByKind (rs : List Entry) (channels : List Channel) (streams : List St
   pub rules_are : map rule_entry rules ≡ of_kind kind.Rule rs
 
 -- a content has the records by kind, the plan's rings, of which the channels' lie first and then the streams', and the greatest lead of its streams
-pub record Sorts (rs : List Entry) (c : Content) : Type 0 where
+pub record Sorts (rs : List Entry) (p : Plan) (c : Content) : Type 0 where
   pub kinds : ByKind rs (vec_items c.channels) (vec_items c.streams) (vec_items c.rules)
-  pub rings : channel_rings (vec_items c.channels) ++ stream_rings (vec_items c.streams) ≡ items (plan_in c).rings
+  pub rings : channel_rings (vec_items c.channels) ++ stream_rings (vec_items c.streams) ≡ items p.rings
   pub greatest : c.greatest_lead ≡ greatest_lead_in (vec_items c.streams)
-
--- the content of records and a plan of them
-abbrev pub Resolves : List Entry → Plan → Content → Type 0
-Resolves rs p c = Sorts rs c × (plan_in c ≡ p)

@@ -7,7 +7,6 @@ use Rattle.tables.specs.declared.content.Channel.{Channel}
 use Rattle.tables.specs.declared.content.Stream.{Stream}
 use Rattle.tables.specs.declared.table.Table.{Table}
 use Rattle.tables.specs.Accepting.{Accepted, records_in}
-use Rattle.tables.specs.Contents.{plan_in}
 
 abbrev pub bytes_of : Table → List ℕ
 bytes_of t = vec_items t.bytes
@@ -28,8 +27,8 @@ rules_of t = vec_items t.content.rules
 
 -- the plan of their values
 abbrev pub plan_of : Table → Plan
-plan_of t = plan_in t.content
+plan_of t = t.plan
 
 -- what is known of any table
 abbrev pub IsAccepted : Table → Type 0
-IsAccepted t = Accepted (bytes_of t) t.content
+IsAccepted t = Accepted (bytes_of t) t.plan t.content

@@ -32,8 +32,12 @@ fn accept(alloc: Global, bytes: &[u8], sheet: &mut [SheetEntry]) -> Result<Table
     let ordered = OrderedRecords { records: &records };
     let plan = make_plan(alloc, &ordered, &mut sheet)?;
     let bytes = bytes.to_vec(alloc)?;
-    let content = Content::new(alloc, records, plan)?;
-    Ok(Table { bytes, content })
+    let content = Content::new(alloc, records, &plan)?;
+    Ok(Table {
+        bytes,
+        plan,
+        content,
+    })
 }
 
 impl Table {
@@ -47,8 +51,12 @@ impl Table {
             order: List::new(),
             rings: List::new(),
         };
-        let content = Content::new(alloc, Vec::new(alloc), plan)?;
-        Ok(Table { bytes, content })
+        let content = Content::new(alloc, Vec::new(alloc), &plan)?;
+        Ok(Table {
+            bytes,
+            plan,
+            content,
+        })
     }
 
     /// Checks the bytes of a table and puts it in this one's place.
@@ -84,7 +92,7 @@ impl Table {
     pub fn counts(&self) -> Counts
         ensures { result ≡ (plan_of self.now).counts }
     {
-        self.content.plan.counts
+        self.plan.counts
     }
 
     /// Its channels by number.
@@ -112,7 +120,7 @@ impl Table {
     pub fn order(&self) -> &[usize]
         ensures { result.now ≡ (items (plan_of self.now).order) }
     {
-        self.content.plan.order.as_slice()
+        self.plan.order.as_slice()
     }
 
     /// The greatest lead of its streams, 0 where it has none.

@@ -1,4 +1,4 @@
-// The channels, streams and rules of a table by number, with the plan of their values.
+// The channels, streams and rules of a table by number.
 ghost use Rattle.std.specs.Prelude.{IfOk};
 ghost use Rattle.syntax.specs.Entries.{entries_of};
 ghost use Rattle.schedule.specs.Plans.{Planned};
@@ -26,10 +26,9 @@ pub struct Stream {
     pub ring: Ring,
 }
 
-// What a tick needs of a table: its channels, streams and rules by number, and the plan of its values, with each ring beside its channel or stream.
+// What a tick needs of a table beside its plan: its channels, streams and rules by number, with each ring beside its channel or stream.
 #[derive(Drop)]
 pub(crate) struct Content {
-    pub(crate) plan: Plan,
     pub(crate) channels: Vec<Channel>,
     pub(crate) streams: Vec<Stream>,
     pub(crate) rules: Vec<Rule>,
@@ -37,18 +36,19 @@ pub(crate) struct Content {
 }
 
 impl Content {
-    ghost use Rattle.tables.specs.Contents.{Resolves};
+    ghost use Rattle.tables.specs.Contents.{Sorts};
 
     // The content of records, by a plan of them.
     pub(crate) fn new(
         alloc: Global,
         records: Vec<Record>,
-        plan: Plan,
+        plan: &Plan,
     ) -> Result<Content, AllocError>
-        requires { Planned (entries_of records) plan }
-        ensures { IfOk result (Resolves (entries_of records) plan) }
+        requires { Planned (entries_of records) plan.now }
+        ensures { IfOk result (Sorts (entries_of records) plan.now) }
     {
-        let Plan { counts, rings, .. } = plan;
+        let counts = plan.counts;
+        let rings = plan.rings.as_slice();
         let mut channels = Vec::with_capacity(alloc, counts.records.channels)?;
         let mut streams = Vec::with_capacity(alloc, counts.records.streams)?;
         let mut rules = Vec::with_capacity(alloc, counts.records.rules)?;
@@ -73,7 +73,6 @@ impl Content {
             }
         }
         Ok(Content {
-            plan,
             channels,
             streams,
             rules,

@@ -8,8 +8,7 @@ use Rattle.syntax.specs.declared.record.Record.{Record}
 use Rattle.syntax.specs.Entries.{entry_of, entries_of}
 use Rattle.tables.specs.Reading.{checked}
 use Rattle.walks.specs.declared.edge.SheetEntry.{SheetEntry}
-use Rattle.schedule.specs.declared.plan.Plan.{Plan}
-use Rattle.tables.specs.Checking.{Admits, Accepts}
+use Rattle.tables.specs.Checking.{Admits}
 use Rattle.tables.proofs.Passing.{written_law, order_of, starved, plan_stopped, plan_accepts, accepted, holds}
 use Rattle.tables.proofs.check.accept.Goals as goal
 
@@ -57,10 +56,9 @@ pub returns : goal.returns
 returns c =
     let rs = entries_of c.in_ok-records.records in
     let same : vec_items c.in_ok-bytes.bytes ≡ c.args.bytes.now = search rules in
-    let planned = subst (λ (l : List Record). Planned (map entry_of l) c.in_ok-plan.plan) c.deref.ensures.value c.in_ok-plan.ensures.scheduled.1 in
-    let made = c.in_ok-content.ensures.1 in (
+    let planned = subst (λ (l : List Record). Planned (map entry_of l) c.in_ok-plan.plan) c.deref.ensures.value c.in_ok-plan.ensures.scheduled.1 in (
       c.if-sheet-lt-LEAST_SHEET.false,
       search rules ∙ c.in_ok-plan.ensures.scheduled.0,
-      subst (λ (q : Plan). Accepts c.args.bytes.now q.counts) (sym made) (plan_accepts c.args.bytes.now rs c.in_ok-plan.plan c.in_ok-records.ensures planned c.in_ok-plan.ensures.scheduled.2),
+      plan_accepts c.args.bytes.now rs c.in_ok-plan.plan c.in_ok-records.ensures planned c.in_ok-plan.ensures.scheduled.2,
       holds c.args.bytes.now rs c.in_ok-records.ensures _ _ same refl,
     )

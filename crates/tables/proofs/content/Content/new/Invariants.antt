@@ -5,4 +5,4 @@ use Rattle.tables.proofs.Sorting.{Sorted}
 use Rattle.tables.proofs.content.Content.new.Given as goal
 
 abbrev pub invariant-loop-record : goal.invariant-loop-record
-invariant-loop-record l = Sorted (map entry_of l.yielded) (items l.rings) l.counts.records.channels l.channels.items l.streams.items l.rules.items l.greatest_lead
+invariant-loop-record l = Sorted (map entry_of l.yielded) (items l.plan.rings) l.counts.records.channels l.channels.items l.streams.items l.rules.items l.greatest_lead

@@ -24,4 +24,4 @@ invariant_of-result c =
     record { accepted = ∣ accepted _ _ order p c.in_ok-content.content c.in_ok-content.ensures in_order planned (omega (arith, c.default.ensures)) ∣₁ }
 
 pub returns : goal.returns
-returns c = holds (1 ∷ []) [] first_order _ _ c.in_ok-bytes.ensures.items (ap (λ (q : Plan). q.counts) c.in_ok-content.ensures.1 ∙ none_counted c.default.result c.default.ensures)
+returns c = holds (1 ∷ []) [] first_order _ _ c.in_ok-bytes.ensures.items (none_counted c.default.result c.default.ensures)
