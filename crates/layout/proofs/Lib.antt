@@ -1,3 +1,4 @@
+pub mod Making
 pub mod Tops
 pub mod Steep
 pub mod Climbs

@@ -4,6 +4,7 @@ ghost use Rattle.walks.specs.Edges.{Bounded};
 ghost use Rattle.layout.specs.Climbs.{Low, topped};
 ghost use Rattle.layout.specs.Sizes.{lead_of_height, leads_of, span, sizes};
 
+use std::array;
 use walks::edge::Edge;
 use walks::graph::{Graph, NODES};
 
@@ -18,7 +19,8 @@ fn lead_of_height(height: u32) -> u32
 pub(crate) fn leads_of(heights: &[u32; NODES]) -> [u32; NODES]
     ensures { result ≡ leads_of heights.now }
 {
-    heights.map(lead_of_height)
+    // Cheaper than `map`, which takes each height out of an iterator that lies in memory.
+    array::from_fn(|node| lead_of_height(heights[node]))
 }
 
 // One edge's part in the lengths of rings: what it reads is kept until it has been read.

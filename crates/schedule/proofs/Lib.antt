@@ -1,4 +1,3 @@
-mod Making
 mod Describing
 pub mod Standing
 mod Placing

@@ -19,8 +19,8 @@ fn make_edge(nodes: &Nodes, r: &Reference) -> Edge
     let reader = nodes.numbering.node(r.reader);
     let read = nodes.numbering.node(r.read);
     let entry = SheetEntry {
-        reader: nodes.told[reader].number,
-        read: nodes.told[read].number,
+        reader: usize::from(nodes.told[reader].number),
+        read: usize::from(nodes.told[read].number),
         drop: r.drop,
     };
     Edge {

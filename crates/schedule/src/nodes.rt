@@ -2,7 +2,8 @@
 ghost use Rattle.std.specs.Prelude.{◌≡◌, map, Some};
 ghost use Rattle.syntax.specs.Entries.{entry_of};
 ghost use Rattle.schedule.specs.Graphs.{opening_count};
-ghost use Rattle.schedule.specs.Edges.{described, Describes};
+ghost use Rattle.syntax.specs.Counting.{counts_of};
+ghost use Rattle.schedule.specs.Edges.{described, id_at, Describes};
 
 use crate::numbering::Numbering;
 use crate::ordered::OrderedRecords;
@@ -15,8 +16,8 @@ use walks::graph::NODES;
 // What an edge tells of a record at either end.
 #[derive(Clone, Copy, Default)]
 pub(crate) struct Node {
-    // Its number among all records.
-    pub(crate) number: usize,
+    // Its number among all records, of which there are at most 64.
+    pub(crate) number: u8,
     // How many opening values it has.
     pub(crate) opening: u8,
 }
@@ -45,11 +46,27 @@ fn describe(ordered: &OrderedRecords<'_>, id: Id) -> Node
 {
     match record_number(ordered.records, id) {
         Some(number) => Node {
-            number,
+            number: number as u8,
             opening: openings_of(&ordered.records[number]) as u8,
         },
         // The definition gives 0 of both to what names no record.
         None => Node::default(),
+    }
+}
+
+// What an edge tells of the record of a node, where there is one.
+fn describe_node(ordered: &OrderedRecords<'_>, numbering: &Numbering, node: usize) -> Node
+    // A numbering doesn't hold the records that it was made of, so its type can't say so.
+    requires { numbering.now.counts ≡ counts_of (map entry_of ordered.now.records.now) }
+    ensures { result
+        ≡ described (map entry_of ordered.now.records.now)
+        (id_at (map entry_of ordered.now.records.now) node) }
+{
+    // The nodes from here on have no record: most of them, in a small table, so none is looked for.
+    if node < ordered.records.len() {
+        describe(ordered, numbering.id(node))
+    } else {
+        Node::default()
     }
 }
 
@@ -59,7 +76,9 @@ impl Nodes {
         ensures { Describes (map entry_of ordered.now.records.now) result }
     {
         let numbering = Numbering::of(ordered);
-        let told = array::from_fn(|m| describe(ordered, numbering.id(m)));
-        Nodes { numbering, told }
+        Nodes {
+            numbering,
+            told: array::from_fn(|node| describe_node(ordered, &numbering, node)),
+        }
     }
 }
