@@ -1,4 +1,4 @@
-use Rattle.std.proofs.Common.{[], ◌∷◌, ◌++◌, refl, sym, ap, subst, ◌∙◌, IfOk, string_bytes}
+use Rattle.std.proofs.Common.{◌≡◌, [], ◌∷◌, ◌++◌, refl, sym, ap, subst, ◌∙◌, IfOk, string_bytes, rules}
 use Rattle.std.specs.Io.Iter.{lines_known_bytes}
 use Rattle.std.specs.Io.KnownBytes.{Appends}
 use Rattle.std.specs.Option.{option_map}
@@ -31,11 +31,12 @@ loop-line-preserved g c =
     let takes : Takes left line left' = subst (λ r. IfOk r (λ x. Takes left (string_bytes x) left')) c.in_ok-line.was c.in-Some.ensures.steps.1 in
     let mid = g.W.Write.contents c.loop-line.output in
     let new = g.W.Write.contents c.write_line.new.output in
+    let is : c.deref-in-loop-line.result.now ≡ string_bytes c.in_ok-tell.field-0 = search rules in
     told_more (Answers g.F.Fn c.args.tell c.args.alloc) (g.R.Read.remaining c.args.input) left left'
     (g.W.Write.contents c.args.output.now) mid new line c.in-Some-line_text.text.now c.in_ok-tell.field-0 c.loop-line.invariant takes
     (ap text_of (sym c.deref.ensures) ∙ sym c.line_text.ensures ∙ ap (option_map (λ s. s.now)) c.in-Some-line_text.is)
     (c.in-Some-line_text.text, refl, record { met = c.in_ok-tell.ensures })
-    (subst (λ l. Appends mid new (l ++ (10 ∷ []))) c.deref-in-loop-line.ensures c.in_ok-write_line.ensures)
+    (subst (λ l. Appends mid new (l ++ (10 ∷ []))) is c.in_ok-write_line.ensures)
 
 pub returns : goal.returns
 returns g c =
